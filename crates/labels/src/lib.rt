@@ -1,0 +1,5 @@
+pub mod code;
+pub mod kind;
+pub mod name;
+pub mod naming;
+pub mod spelling;

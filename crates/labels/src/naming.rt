@@ -1,0 +1,73 @@
+// Making names, and comparing them.
+ghost use mathlib.Core.Path.{_≡_};
+ghost use mathlib.Core.List.{[]};
+ghost use Prim.Native.Nat.{_<_, _≤_, _^_, _-_, min};
+ghost use lib.ListN.{length};
+ghost use Rattle.std.specs.Results.{Cases};
+ghost use Rattle.std.specs.shelf.Text.{sameBytes};
+ghost use Rattle.labels.specs.Names.{fixed, bytes-of, Refused};
+use crate::kind::LabelKind;
+use crate::name::Name;
+use crate::name::NamePartialEq;
+use crate::name::NameRefusal;
+use crate::spelling::NAME_LIMIT;
+
+// The number that at most eight bytes write in base 256.
+fn word(bytes: &[u8]) -> u64
+    requires { ⌜ length (now bytes) ≤ 8 ⌝ }
+    ensures digits { λ r. ⌜ fixed (length (now (bytes .entry))) r ≡ now (bytes .entry) ⌝ }
+    ensures bound { λ r. ⌜ r < 256 ^ length (now (bytes .entry)) ⌝ }
+{
+    let mut w: u64 = 0;
+    for b in bytes {
+        w = w * 256 + u64::from(*b);
+    }
+    w
+}
+
+impl Name {
+    // The name of no bytes.
+    pub fn empty() -> Name
+        ensures { λ r. ⌜ bytes-of r ≡ [] ⌝ }
+    {
+        Name {
+            len: 0,
+            first: 0,
+            second: 0,
+            third: 0,
+            fourth: 0,
+        }
+    }
+
+    // The name of these bytes, unless they are too many.
+    pub fn from_bytes(bytes: &[u8]) -> Result<Name, NameRefusal>
+        ensures { λ r. ⌜ Cases r (λ n. bytes-of n ≡ now (bytes .entry)) (Refused (now (bytes .entry))) ⌝ }
+    {
+        let len = bytes.len();
+        if len > NAME_LIMIT {
+            return Err(NameRefusal::TooLong);
+        }
+        let one = len.min(8);
+        let two = len.min(16);
+        let three = len.min(24);
+        let first = word(&bytes[..one]);
+        let second = word(&bytes[one..two]);
+        let third = word(&bytes[two..three]);
+        let fourth = word(&bytes[three..]);
+        Ok(Name {
+            len,
+            first,
+            second,
+            third,
+            fourth,
+        })
+    }
+}
+
+pub impl LabelKind for Name as NameKind {
+    ghost same = { λ a b. sameBytes (bytes-of a) (bytes-of b) };
+
+    fn equals(&self, other: &Name) -> bool {
+        *self == *other
+    }
+}
