@@ -1,0 +1,4 @@
+pub mod Answered
+pub mod NodeLaws
+pub mod TableSteps
+pub mod TableListed

@@ -1,0 +1,4 @@
+pub mod event;
+pub mod record;
+pub mod source;
+pub mod table;
