@@ -1,18 +1,23 @@
 -- The bytes of a name.
 use mathlib.Core.Path.{_≡_, refl, sym, ap, ap₂, subst, _∙_}
-use mathlib.Core.List.{List, [], _∷_, _++_}
+use mathlib.Core.List.{List, [], _∷_, _++_, append-nil, append-assoc}
+use mathlib.Core.HLevel.{isProp→PathP}
+use native.Mathlib.Bridge.{le-prop}
+use Rattle.std.specs.Vec.{Every}
+use Rattle.labels.specs.Spelling.{name-limit}
 use mathlib.Core.Bool.{Bool, true, false, cond}
 use Rattle.std.specs.Orderings.{Decides}
 use Rattle.std.specs.shelf.Text.{sameBytes}
 use Rattle.std.proofs.shelf.Equals.{sameBytes-decides}
-use Rattle.std.proofs.shelf.Tests.{false≢true}
+use Rattle.std.proofs.shelf.Tests.{false≢true, cases-lt}
 use Prim.Native.Nat.{ℕ, zero, suc, _<_, _≤_, _+_, _-_, _*_, _/_, _%_, _^_, min}
 use native.Mathlib.Omega.{arith}
-use native.Mathlib.Nat.{pow-suc, pow-le-pow-right}
-use lib.ListN.{length, take, drop}
-use Rattle.std.proofs.shelf.Lists.{length-append, length-push, take-at, drop-at, same-from-push, drop-drop, take-append-drop, take-rest, length-take-le, length-drop}
+use native.Mathlib.Nat.{pow-zero, pow-suc, pow-le-pow-right, mod-eq-of-lt}
+use mathlib.Core.Logic.{_⊎_, inl, inr}
+use lib.ListN.{length, getD, take, drop}
+use Rattle.std.proofs.shelf.Lists.{length-append, length-push, take-at, drop-at, same-from-push, drop-drop, take-append-drop, take-rest, take-all, length-take-le, length-drop}
 use Rattle.labels.specs.declared.name.Name.{Name}
-use Rattle.labels.specs.Names.{fixed, bytes-of}
+use Rattle.labels.specs.Names.{fixed, bytes-of, written, word-of, name-of}
 
 pub length-fixed : (n w : ℕ) → length (fixed n w) ≡ n
 length-fixed zero w = refl
@@ -176,3 +181,105 @@ same-back bs cs e = sameBytes-decides cs bs .1 (sym (sameBytes-decides bs cs .0 
 
 pub same-on : (bs cs ds : List ℕ) → sameBytes bs cs ≡ true → sameBytes cs ds ≡ true → sameBytes bs ds ≡ true
 same-on bs cs ds e f = sameBytes-decides bs ds .1 (sameBytes-decides bs cs .0 e ∙ sameBytes-decides cs ds .0 f)
+
+-- names with the same words are one
+words-one : (x y : Name) → Same x y → x ≡ y
+words-one x y s = λ i. record {
+  len = s .len i;
+  first = s .first i;
+  second = s .second i;
+  third = s .third i;
+  fourth = s .fourth i;
+  few = isProp→PathP (λ i. s .len i ≤ name-limit) (λ i. le-prop) (x .few) (y .few) i;
+  «first_fits» = isProp→PathP (λ i. s .first i < 256 ^ min 8 (s .len i)) (λ i. le-prop) (x .«first_fits») (y .«first_fits») i;
+  «second_fits» = isProp→PathP (λ i. s .second i < 256 ^ min 8 (s .len i - 8)) (λ i. le-prop) (x .«second_fits») (y .«second_fits») i;
+  «third_fits» = isProp→PathP (λ i. s .third i < 256 ^ min 8 (s .len i - 16)) (λ i. le-prop) (x .«third_fits») (y .«third_fits») i;
+  «fourth_fits» = isProp→PathP (λ i. s .fourth i < 256 ^ min 8 (s .len i - 24)) (λ i. le-prop) (x .«fourth_fits») (y .«fourth_fits») i;
+}
+
+pub bytes-one : (x y : Name) → bytes-of x ≡ bytes-of y → x ≡ y
+bytes-one x y e = words-one x y (same-words x y e)
+
+-- the digits of what bytes write are the bytes
+written-digits : (v n : ℕ) (bs : List ℕ) → Every (λ b. b < 256) bs → fixed (n + length bs) (written v bs) ≡ fixed n v ++ bs
+written-digits v n [] h = let e : n + 0 ≡ n = omega arith in ap (λ (k : ℕ). fixed k v) e ∙ sym (append-nil (fixed n v))
+written-digits v n (b ∷ bs) h =
+    let e : n + suc (length bs) ≡ (n + 1) + length bs = omega arith in
+    ap (λ (k : ℕ). fixed k (written (v * 256 + b) bs)) e
+    ∙ written-digits (v * 256 + b) (n + 1) bs (h .1)
+    ∙ ap (λ (ds : List ℕ). ds ++ bs) (fixed-more n v b (h .0))
+    ∙ append-assoc (fixed n v) (b ∷ []) bs
+
+written-fits : (v n : ℕ) (bs : List ℕ) → Every (λ b. b < 256) bs → v < 256 ^ n → written v bs < 256 ^ (n + length bs)
+written-fits v n [] h l = let e : n ≡ n + 0 = omega arith in let P : ℕ → Type 0 = λ k. v < 256 ^ k in subst P e l
+written-fits v n (b ∷ bs) h l =
+    let e : (n + 1) + length bs ≡ n + suc (length bs) = omega arith in
+    let P : ℕ → Type 0 = λ k. written (v * 256 + b) bs < 256 ^ k in
+    subst P e (written-fits (v * 256 + b) (n + 1) bs (h .1) (bound-more n v b l (h .0)))
+
+digits-back : (bs : List ℕ) (n : ℕ) → length bs ≡ n → Every (λ b. b < 256) bs → fixed n (written 0 bs % 256 ^ n) ≡ bs
+digits-back bs n l h =
+    let e : 0 + length bs ≡ n = omega arith in
+    let P : ℕ → Type 0 = λ k. written 0 bs < 256 ^ k in
+    let Q : ℕ → Type 0 = λ k. fixed k (written 0 bs) ≡ bs in
+    let z : 0 < 256 ^ 0 = omega (arith, pow-zero 256) in
+    ap (λ (w : ℕ). fixed n w) (mod-eq-of-lt (subst P e (written-fits 0 0 bs h z))) ∙ subst Q e (written-digits 0 0 bs h)
+
+take-few : (n : ℕ) (bs : List ℕ) → take (min n (length bs)) bs ≡ take n bs
+take-few n bs = go (cases-lt n (length bs))
+  where
+    go : ((n < length bs) ⊎ (length bs ≤ n)) → take (min n (length bs)) bs ≡ take n bs
+    go (inl l) = let e : min n (length bs) ≡ n = omega arith in ap (λ (k : ℕ). take k bs) e
+    go (inr l) = take-all (min n (length bs)) bs (omega arith) ∙ sym (take-all n bs l)
+
+every-drop : (P : ℕ → Type 0) (p : ℕ) (bs : List ℕ) → Every P bs → Every P (drop p bs)
+every-drop P zero bs h = h
+every-drop P (suc p) [] h = tt
+every-drop P (suc p) (b ∷ bs) h = every-drop P p bs (h .1)
+
+every-take : (P : ℕ → Type 0) (n : ℕ) (bs : List ℕ) → Every P bs → Every P (take n bs)
+every-take P zero bs h = tt
+every-take P (suc n) [] h = tt
+every-take P (suc n) (b ∷ bs) h = (h .0, every-take P n bs (h .1))
+
+pub every-part : (P : ℕ → Type 0) (n p : ℕ) (bs : List ℕ) → Every P bs → Every P (take n (drop p bs))
+every-part P n p bs h = every-take P n (drop p bs) (every-drop P p bs h)
+
+pub every-place : (P : ℕ → Type 0) (bs : List ℕ) → ((i : ℕ) → P (getD bs i 0)) → Every P bs
+every-place P [] h = tt
+every-place P (b ∷ bs) h = (h 0, every-place P bs (λ i. h (suc i)))
+
+-- one word of the name gives eight bytes, or as many as are left
+word-back : (bs : List ℕ) (p : ℕ) → Every (λ b. b < 256) bs → fixed (min 8 (length bs - p)) (word-of bs p (min 8 (length bs - p))) ≡ take 8 (drop p bs)
+word-back bs p h =
+    let n : ℕ = min 8 (length bs - p) in
+    let l : length (take n (drop p bs)) ≡ n = length-take-le n (drop p bs) (omega (arith, length-drop p bs)) in
+    let few : take n (drop p bs) ≡ take 8 (drop p bs) = let e : n ≡ min 8 (length (drop p bs)) = omega (arith, length-drop p bs) in ap (λ (k : ℕ). take k (drop p bs)) e ∙ take-few 8 (drop p bs) in
+    digits-back (take n (drop p bs)) n l (every-part (λ b. b < 256) n p bs h) ∙ few
+
+eight-more : (bs : List ℕ) (p q : ℕ) → q ≡ p + 8 → take 8 (drop p bs) ++ drop q bs ≡ drop p bs
+eight-more bs p q e = ap (λ (k : ℕ). take 8 (drop p bs) ++ drop k bs) e ∙ ap (λ (ds : List ℕ). take 8 (drop p bs) ++ ds) (sym (drop-drop 8 p bs)) ∙ take-append-drop 8 (drop p bs)
+
+pub name-bytes : (bs : List ℕ) → length bs ≤ name-limit → Every (λ b. b < 256) bs → bytes-of (name-of bs) ≡ bs
+unfolding name-of
+name-bytes bs few h =
+    let len : min name-limit (length bs) ≡ length bs = omega arith in
+    let Q : ℕ → Type 0 = λ n.
+    fixed (min 8 n) (word-of bs 0 (min 8 n)) ++ (fixed (min 8 (n - 8)) (word-of bs 8 (min 8 (n - 8))) ++ (fixed (min 8 (n - 16)) (word-of bs 16 (min 8 (n - 16))) ++ fixed (min 8 (n - 24)) (word-of bs 24 (min 8 (n - 24))))) ≡ bs in
+    let zero : length bs - 0 ≡ length bs = omega arith in
+    let R : ℕ → Type 0 = λ n. fixed (min 8 n) (word-of bs 0 (min 8 n)) ≡ take 8 (drop 0 bs) in
+    let a : fixed (min 8 (length bs)) (word-of bs 0 (min 8 (length bs))) ≡ take 8 (drop 0 bs) = subst R zero (word-back bs 0 h) in
+    let b = word-back bs 8 h in
+    let k = word-back bs 16 h in
+    let d : fixed (min 8 (length bs - 24)) (word-of bs 24 (min 8 (length bs - 24))) ≡ drop 24 bs = word-back bs 24 h ∙ take-all 8 (drop 24 bs) (omega (arith, length-drop 24 bs)) in
+    let e2 = eight-more bs 16 24 refl in
+    let e1 = eight-more bs 8 16 refl in
+    let e0 = eight-more bs 0 8 refl in
+    let all : drop 0 bs ≡ bs = refl in
+    subst Q (sym len) (cc)
+
+-- a name with these bytes is the name of them
+pub is-name-of : (bs : List ℕ) (n : Name) → ((i : ℕ) → getD bs i 0 < 256) → bytes-of n ≡ bs → n ≡ name-of bs
+is-name-of bs n h e =
+    let few : length bs ≤ name-limit = subst (λ (xs : List ℕ). length xs ≤ name-limit) e (let l = length-bytes n in let f = n .few in omega arith) in
+    bytes-one n (name-of bs) (e ∙ sym (name-bytes bs few (every-place (λ b. b < 256) bs h)))

@@ -5,7 +5,7 @@ ghost use Prim.Native.Nat.{_<_, _≤_, _^_, _-_, min};
 ghost use lib.ListN.{length};
 ghost use Rattle.std.specs.Results.{Cases};
 ghost use Rattle.std.specs.shelf.Text.{sameBytes};
-ghost use Rattle.labels.specs.Names.{fixed, bytes-of, Refused};
+ghost use Rattle.labels.specs.Names.{fixed, bytes-of, Named, Refused};
 use crate::kind::LabelKind;
 use crate::name::Name;
 use crate::name::NamePartialEq;
@@ -41,7 +41,7 @@ impl Name {
 
     // The name of these bytes, unless they are too many.
     pub fn from_bytes(bytes: &[u8]) -> Result<Name, NameRefusal>
-        ensures { λ r. ⌜ Cases r (λ n. bytes-of n ≡ now (bytes .entry)) (Refused (now (bytes .entry))) ⌝ }
+        ensures { λ r. ⌜ Cases r (Named (now (bytes .entry))) (Refused (now (bytes .entry))) ⌝ }
     {
         let len = bytes.len();
         if len > NAME_LIMIT {
