@@ -4,12 +4,14 @@ use mathlib.Core.List.{List, [], _∷_, _++_, append-nil, append-assoc}
 use mathlib.Core.HLevel.{isProp→PathP}
 use native.Mathlib.Bridge.{le-prop}
 use Rattle.std.specs.Vec.{Every}
-use Rattle.labels.specs.Spelling.{name-limit}
+use lib.Dec.{ltb}
+use Rattle.labels.specs.Spelling.{name-limit, kept-name}
 use mathlib.Core.Bool.{Bool, true, false, cond}
 use Rattle.std.specs.Orderings.{Decides}
 use Rattle.std.specs.shelf.Text.{sameBytes}
 use Rattle.std.proofs.shelf.Equals.{sameBytes-decides}
-use Rattle.std.proofs.shelf.Tests.{false≢true, cases-lt}
+use Rattle.std.proofs.shelf.Tests.{false≢true, cases-lt, cond-false}
+use borrow.Author.Tests.{le-ltb}
 use Prim.Native.Nat.{ℕ, zero, suc, _<_, _≤_, _+_, _-_, _*_, _/_, _%_, _^_, min}
 use native.Mathlib.Omega.{arith}
 use native.Mathlib.Nat.{pow-zero, pow-suc, pow-le-pow-right, mod-eq-of-lt}
@@ -283,3 +285,11 @@ pub is-name-of : (bs : List ℕ) (n : Name) → ((i : ℕ) → getD bs i 0 < 256
 is-name-of bs n h e =
     let few : length bs ≤ name-limit = subst (λ (xs : List ℕ). length xs ≤ name-limit) e (let l = length-bytes n in let f = n .few in omega arith) in
     bytes-one n (name-of bs) (e ∙ sym (name-bytes bs few (every-place (λ b. b < 256) bs h)))
+
+-- a name keeps the bytes that it was made from
+pub kept-all : (bs : List ℕ) (n : Name) → bytes-of n ≡ bs → bytes-of n ≡ kept-name bs
+kept-all bs n e =
+    let l = length-bytes n in
+    let f = n .few in
+    let few : length bs ≤ name-limit = subst (λ (xs : List ℕ). length xs ≤ name-limit) e (omega arith) in
+    e ∙ sym (cond-false (ltb name-limit (length bs)) [] bs (le-ltb name-limit (length bs) few))

@@ -1,9 +1,9 @@
 -- How names and white space are spelled.
 use mathlib.Core.Path.{_≡_}
-use mathlib.Core.List.{List}
-use mathlib.Core.Bool.{Bool, true, false, _||_}
+use mathlib.Core.List.{List, []}
+use mathlib.Core.Bool.{Bool, true, false, cond, _||_}
 use Prim.Native.Nat.{ℕ, _+_, _-_, _<_, _≤_}
-use lib.Dec.{eqb}
+use lib.Dec.{eqb, ltb}
 use lib.ListN.{length, getD, take, drop}
 use Rattle.std.specs.Text.{asciiDigit, asciiLetter}
 
@@ -46,3 +46,7 @@ name-limit = 32
 -- a name that is not too long
 abbrev pub Spelled : List ℕ → ℕ → ℕ → Type 0
 Spelled bs p q = Named bs p q × (q ≤ p + name-limit)
+
+-- the bytes that a name keeps: none where they are too many
+abbrev pub kept-name : List ℕ → List ℕ
+kept-name bs = cond (ltb name-limit (length bs)) [] bs

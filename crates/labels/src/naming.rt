@@ -7,6 +7,7 @@ ghost use Rattle.std.specs.Results.{Cases};
 ghost use Rattle.std.specs.shelf.Text.{sameBytes};
 ghost use Rattle.labels.specs.Names.{fixed, bytes-of, Named, Refused};
 use crate::kind::LabelKind;
+use crate::kind::NameLabel;
 use crate::name::Name;
 use crate::name::NamePartialEq;
 use crate::name::NameRefusal;
@@ -69,5 +70,18 @@ pub impl LabelKind for Name as NameKind {
 
     fn equals(&self, other: &Name) -> bool {
         *self == *other
+    }
+}
+
+pub impl NameLabel for Name as NameNameLabel {
+    ghost spelled = { bytes-of };
+
+    ghost alike = { sameBytes };
+
+    fn from_name(bytes: &[u8]) -> Name {
+        match Name::from_bytes(bytes) {
+            Ok(name) => name,
+            Err(NameRefusal::TooLong) => Name::empty(),
+        }
     }
 }
