@@ -539,6 +539,8 @@ INPUTS = [
     (b"//b\n<a><b/><b></a>", b"1\nrefused 33 at 12\n"),
     (b"//*\n" + NESTED,
      b"".join(b"%d\n" % n for n in reversed(range(128))) + b"selected 128\n"),
+    (b"//a[.//a" + b"//a" * 62 + b"]\n" + NESTED,
+     b"".join(b"%d\n" % n for n in reversed(range(65))) + b"selected 65\n"),
     (b"//a\n<a/>".ljust(65536), b"0\nselected 1\n"),
     (b"//a\n<a/>".ljust(65537), b"refused 50 at 65536\n"),
     (b"$".ljust(70000), b"refused 50 at 65536\n"),
@@ -637,7 +639,7 @@ def self_check():
         assert found == expected, (data, found)
     for data, expected in INPUTS:
         assert answer(data) == expected, (data[:80], answer(data))
-    sequences = check_beginnings(5, 9)
+    sequences = check_beginnings(6, 11)
     hits = check_search(2000)
     print("%d texts, %d listings, %d inputs, %d token sequences, "
           "%d embeddings: all as expected"

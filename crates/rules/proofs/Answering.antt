@@ -53,16 +53,16 @@ never-both (gives {ts = ts} f l a) (refused {ts = us} g m r) =
     a .clear (r .before) (r .at) (r .rest) _ (q ∙ r .splits) (r .offends)
 
 two-splits : {X : Type 0} (a c : List X) (t u : X) (b d : List X) → a ++ (t ∷ b) ≡ c ++ (u ∷ d)
-  → ((a ≡ c) × (t ≡ u)) ⊎ (((e : List X) × (c ≡ a ++ (t ∷ e))) ⊎ ((e : List X) × (a ≡ c ++ (u ∷ e))))
+    → ((a ≡ c) × (t ≡ u)) ⊎ (((e : List X) × (c ≡ a ++ (t ∷ e))) ⊎ ((e : List X) × (a ≡ c ++ (u ∷ e))))
 two-splits [] [] t u b d q = inl (refl, cc)
 two-splits [] (y ∷ c) t u b d q = inr (inl (c, cc))
 two-splits (x ∷ a) [] t u b d q = inr (inr (a, cc))
 two-splits (x ∷ a) (y ∷ c) t u b d q =
     let here : x ≡ y = cc in
     elim (two-splits a c t u b d (cc)) [
-      inl h ↦ inl (let p = h .0 in cc, h .1)
-    | inr (inl h) ↦ inr (inl (h .0, let p = h .1 in cc))
-    | inr (inr h) ↦ inr (inr (h .0, let p = h .1 in cc))
+      | inl h ↦ inl (let p = h .0 in cc, h .1)
+      | inr (inl h) ↦ inr (inl (h .0, let p = h .1 in cc))
+      | inr (inr h) ↦ inr (inr (h .0, let p = h .1 in cc))
     ]
 
 first-of : {k j : ℕ} → Comes-before k j → (k ≡ j) ⊎ ((k ≡ 11) ⊎ ((k ≡ 13) × (j ≡ 12)))
@@ -76,12 +76,12 @@ one-number k j x y = let p = first-of x in let q = first-of y in omega arith
 refused-same : {ts : List Token} {k p j q : ℕ} → Refused ts k p → Refused ts j q → (k ≡ j) × (p ≡ q)
 refused-same {ts} {k} {p} {j} {q} r s =
     elim (two-splits (r .before) (s .before) (r .at) (s .at) (r .rest) (s .rest) (sym (r .splits) ∙ s .splits)) [
-      inl h ↦
-        let also : Offends (r .before) (r .at) j = subst (λ b. Offends b (r .at) j) (sym (h .0)) (subst (λ t. Offends (s .before) t j) (sym (h .1)) (s .offends)) in
-        let back : Offends (s .before) (s .at) k = subst (λ b. Offends b (s .at) k) (h .0) (subst (λ t. Offends (r .before) t k) (h .1) (r .offends)) in
-        (one-number k j (r .foremost j also) (s .foremost k back), sym (r .place) ∙ ap (λ t. t .place) (h .1) ∙ s .place)
-    | inr (inl h) ↦ absurd (s .clear (r .before) (r .at) (h .0) k (h .1) (r .offends))
-    | inr (inr h) ↦ absurd (r .clear (s .before) (s .at) (h .0) j (h .1) (s .offends))
+      | inl h ↦
+          let also : Offends (r .before) (r .at) j = subst (λ b. Offends b (r .at) j) (sym (h .0)) (subst (λ t. Offends (s .before) t j) (sym (h .1)) (s .offends)) in
+          let back : Offends (s .before) (s .at) k = subst (λ b. Offends b (s .at) k) (h .0) (subst (λ t. Offends (r .before) t k) (h .1) (r .offends)) in
+          (one-number k j (r .foremost j also) (s .foremost k back), sym (r .place) ∙ ap (λ t. t .place) (h .1) ∙ s .place)
+      | inr (inl h) ↦ absurd (s .clear (r .before) (r .at) (h .0) k (h .1) (r .offends))
+      | inr (inr h) ↦ absurd (r .clear (s .before) (s .at) (h .0) j (h .1) (s .offends))
     ]
 
 pub turned-same : {bs : List ℕ} {k p j q : ℕ} → IsRefused bs k p → IsRefused bs j q → (k ≡ j) × (p ≡ q)

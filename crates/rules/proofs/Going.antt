@@ -43,14 +43,16 @@ Fair t = ((t .kind ≡ Name) × (t .len ≤ 32)) ⊎ (t .kind ≡ Star)
 
 fair-moves : (t : Token) (n deep : ℕ) (s : State) → Fair t → n < 64 → (on-test (t .kind) s ≡ to s) × (over (t .kind) (t .len) n deep ≡ 0) × (t .kind ≡ End → ⊥)
 fair-moves t n deep s (inl both) h =
-    let (q, short) = both in
-    (ap (λ k. on-test k s) q,
-     ap (λ k. over k (t .len) n deep) q ∙ grind (arith, tells),
-     λ e. let z : _≡_ {A = ℕ} 0 1 = cc in omega arith)
-fair-moves t n deep s (inr q) h =
-    (ap (λ k. on-test k s) q,
-     ap (λ k. over k (t .len) n deep) q ∙ grind (arith, tells),
-     λ e. let z : _≡_ {A = ℕ} 0 1 = cc in omega arith)
+    let (q, short) = both in (
+      ap (λ k. on-test k s) q,
+      ap (λ k. over k (t .len) n deep) q ∙ grind (arith, tells),
+      λ e. let z : _≡_ {A = ℕ} 0 1 = cc in omega arith,
+    )
+fair-moves t n deep s (inr q) h = (
+  ap (λ k. on-test k s) q,
+  ap (λ k. over k (t .len) n deep) q ∙ grind (arith, tells),
+  λ e. let z : _≡_ {A = ℕ} 0 1 = cc in omega arith,
+)
 
 fair-short : (t : Token) → Fair t → t .kind ≡ Name → t .len ≤ 32
 fair-short t (inl h) q = h .1
@@ -66,7 +68,7 @@ noted e t p edge sound up few fair =
     let real = fair-moves t 0 0 (with-node p edge [] [] t) fair (omega arith) .2 in
     let some = up .some real in
     let grown : take (e .count + 1) (set (e .nodes) (e .count) (node p edge t)) ≡ made e ++ (node p edge t ∷ []) =
-          take-more-set (e .nodes) (e .count) (node p edge t) (omega (arith, sound .room)) in
+    take-more-set (e .nodes) (e .count) (node p edge t) (omega (arith, sound .room)) in
     record {
       kept = record { same = refl; on = omega (arith, up .late); sound = record { lies = subst (Every (Lies (bytes e))) (sym grown) (every-snoc (Lies (bytes e)) (made e) (node p edge t) (sound .lies) (up .within, fair-short t fair)); within = up .within; few = omega arith; room = length-set (e .nodes) (e .count) _ ∙ sound .room } };
       further = omega (arith, up .late);
@@ -88,7 +90,7 @@ first-fails {e} {x} {test} {edge} n room f b s outer fits =
 
 -- a path of which a further step fails
 pub further-fails : {e x y z w : Reader} {test next : Token} {edge edge′ : Edge} {m last : ℕ} (n room : ℕ) (f : TextRefusal)
-  → Begun e x test edge → StepRead x y test n edge room m → Along y m z last room → Joined z w edge′ → StepFails w next last edge′ room f → PathFails e n room f
+    → Begun e x test edge → StepRead x y test n edge room m → Along y m z last room → Joined z w edge′ → StepFails w next last edge′ room f → PathFails e n room f
 further-fails {e} {x} {y} {z} {w} {test} {next} {edge} {edge′} {m} {last} n room f b s a j g outer fits =
     b .leads n outer (made e) ∙ ap (λ ns. run (left x) (first edge n outer ns)) (sym (b .made-same))
     ∙ s .leads (n ∷ outer) (first edge n outer (made x)) fits (b .enters n outer (made x))
@@ -127,7 +129,7 @@ module _ (e : Reader) (d test : Token) (new : e .count ≡ 0) (up : Upcoming e d
         record {
           kept = record { same = s .kept .same; on = omega (arith, up .late, s .kept .on); sound = s .kept .sound };
           leads = to-root ∙ s .leads [] root refl at-root ∙ ap (λ ts. run ts (after n [] (made x))) (last .done end)
-            ∙ ap (λ k. go (on-after k n [] (made x)) (over k (t .len) (length (made x)) 0) (t .place) (λ u. run [] u)) end;
+              ∙ ap (λ k. go (on-after k n [] (made x)) (over k (t .len) (length (made x)) 0) (t .place) (λ u. run [] u)) end;
         }
 
     pub end-fails : (t .kind ≡ End → ⊥) → run (left e) start ≡ refuses 11 (t .place)

@@ -180,8 +180,8 @@ module _ (before : List Token) (t : Token) (s : State) (tally : Tally before s) 
       let m = tally .tests in
       let which : ((13 ≡ suc k) × (64 ≤ length (nodes s))) ⊎ ((12 ≡ suc k) × (length (nodes s) < 64) × (32 < t .len)) = pick (length (nodes s)) (t .len) k e in
       elim which [
-        inl h ↦ subst Worst (h .0) (record { offends = many-tests (name q) (omega (arith, h .1)); foremost = first-tests b (name q) })
-      | inr h ↦ subst Worst (h .0) (record { offends = long-name q (h .2); foremost = first-name b q (h .1) })
+        | inl h ↦ subst Worst (h .0) (record { offends = many-tests (name q) (omega (arith, h .1)); foremost = first-tests b (name q) })
+        | inr h ↦ subst Worst (h .0) (record { offends = long-name q (h .2); foremost = first-name b q (h .1) })
       ]
     where
       pick : (n l k : ℕ) → cond (leb 64 n) 13 (cond (ltb 32 l) 12 0) ≡ suc k → ((13 ≡ suc k) × (64 ≤ n)) ⊎ ((12 ≡ suc k) × (n < 64) × (32 < l))
@@ -202,7 +202,7 @@ module _ (before : List Token) (t : Token) (s : State) (tally : Tally before s) 
 -- the whole text
 
 split-push : {X : Type 0} (xs a : List X) (x u : X) (b : List X) → xs ++ (x ∷ []) ≡ a ++ (u ∷ b)
-  → ((a ≡ xs) × (u ≡ x)) ⊎ ((c : List X) × (xs ≡ a ++ (u ∷ c)))
+    → ((a ≡ xs) × (u ≡ x)) ⊎ ((c : List X) × (xs ≡ a ++ (u ∷ c)))
 split-push [] [] x u b e = inl (refl, cc)
 split-push [] (y ∷ a) x u b e = absurd (omega (arith, ap length e, lib.ListN.length-append a (u ∷ b)))
 split-push (y ∷ xs) [] x u b e = inr (xs, cc)
@@ -210,15 +210,15 @@ split-push (y ∷ xs) (z ∷ a) x u b e =
     let here : y ≡ z = cc in
     let there : xs ++ (x ∷ []) ≡ a ++ (u ∷ b) = cc in
     elim (split-push xs a x u b there) [
-      inl h ↦ inl (let p = h .0 in cc, h .1)
-    | inr h ↦ inr (h .0, let p = h .1 in cc)
+      | inl h ↦ inl (let p = h .0 in cc, h .1)
+      | inr h ↦ inr (h .0, let p = h .1 in cc)
     ]
 
 clear-more : (before : List Token) (t : Token) → Clear before → ((k : ℕ) → Offends before t k → ⊥) → Clear (before ++ (t ∷ []))
 clear-more before t c h a u b k e o =
     elim (split-push before a t u b e) [
-      inl q ↦ h k (subst (λ x. Offends before x k) (q .1) (subst (λ xs. Offends xs u k) (q .0) o))
-    | inr q ↦ c a u (q .0) k (q .1) o
+      | inl q ↦ h k (subst (λ x. Offends before x k) (q .1) (subst (λ xs. Offends xs u k) (q .0) o))
+      | inr q ↦ c a u (q .0) k (q .1) o
     ]
 
 -- what an answer says of the tokens
@@ -237,11 +237,16 @@ moved-one before t s e = moves-append before (t ∷ []) (to start) ∙ ap (moves
 
 -- one token more, where what is behind it is answered for
 next : (t : Token) (ts before : List Token) (s : State) → Sofar before s
-  → ((a : List Token) (u : State) → Sofar a u → Right (a ++ ts) (run ts u))
-  → (m : Moved) → move s t ≡ m → (x : ℕ) → excess s t ≡ x → Right (before ++ (t ∷ ts)) (go m x (t .place) (λ u. run ts u))
+    → ((a : List Token) (u : State) → Sofar a u → Right (a ++ ts) (run ts u))
+    → (m : Moved) → move s t ≡ m → (x : ℕ) → excess s t ≡ x → Right (before ++ (t ∷ ts)) (go m x (t .place) (λ u. run ts u))
 next t ts before s h ih stuck e x q =
     record {
-      before = before; at = t; rest = ts; splits = refl; place = refl; clear = h .clear;
+      before = before;
+      at = t;
+      rest = ts;
+      splits = refl;
+      place = refl;
+      clear = h .clear;
       offends = not-allowed (begins-not _ (moved-one before t s (h .moved) ∙ e));
       foremost = λ j o. allowed-first;
     }
@@ -249,17 +254,23 @@ next t ts before s h ih (to u) e zero q =
     let there = moved-one before t s (h .moved) ∙ e in
     let b = begins _ u there in
     let more-far : Sofar (before ++ (t ∷ [])) u = record {
-          moved = there;
-          clear = clear-more before t (h .clear) (fine before t s (h .tally) b q);
-          tally = tally-more before t s u e (h .tally);
-        } in
+      moved = there;
+      clear = clear-more before t (h .clear) (fine before t s (h .tally) b q);
+      tally = tally-more before t s u e (h .tally);
+    } in
     subst (λ xs. Right xs (run ts u)) (append-assoc before (t ∷ []) ts) (ih (before ++ (t ∷ [])) u more-far)
 next t ts before s h ih (to u) e (suc k) q =
     let b = begins _ u (moved-one before t s (h .moved) ∙ e) in
     let w = worst before t s (h .tally) b (t .kind) refl k q in
     record {
-      before = before; at = t; rest = ts; splits = refl; place = refl; clear = h .clear;
-      offends = w .offends; foremost = w .foremost;
+      before = before;
+      at = t;
+      rest = ts;
+      splits = refl;
+      place = refl;
+      clear = h .clear;
+      offends = w .offends;
+      foremost = w .foremost;
     }
 
 answer : (ts before : List Token) (s : State) → Sofar before s → Right (before ++ ts) (run ts s)

@@ -32,30 +32,32 @@ on-between s e n k outer ns (double-slash h) = rw h
 
 mutual
   steps : {p : ℕ} {e : Edge} {ns ms : List ParsedNode} {ts rest : List Token} → Step p e ns ts ms rest
-    → (outer : List ℕ) (s : State) → ((t : Token) → Test t → move s t ≡ to (with-node p e outer ns t))
-    → moves ts (to s) ≡ moves rest (to (after (length ns) outer ms))
+      → (outer : List ℕ) (s : State) → ((t : Token) → Test t → move s t ≡ to (with-node p e outer ns t))
+      → moves ts (to s) ≡ moves rest (to (after (length ns) outer ms))
   steps (step {t = t} {ts = ts} test ps) outer s h = ap (moves ts) (h t test) ∙ predicates ps outer
 
   predicates : {n : ℕ} {ns ms : List ParsedNode} {ts rest : List Token} → Predicates n ns ts ms rest
-    → (outer : List ℕ) → moves ts (to (after n outer ns)) ≡ moves rest (to (after n outer ms))
+      → (outer : List ℕ) → moves ts (to (after n outer ns)) ≡ moves rest (to (after n outer ms))
   predicates none outer = refl
   predicates (predicate {n = n} {ns = ns} {ks = ks} {ts = ts} {us = us} o p c ps) outer =
       let (m, e) = paths p outer in
       ap (λ k. moves ts (on-after k n outer ns)) o ∙ e ∙ ap (λ k. moves us (on-after k m (n ∷ outer) ks)) c ∙ predicates ps outer
 
   paths : {n : ℕ} {ns ms : List ParsedNode} {ts rest : List Token} → Path n ns ts ms rest
-    → (outer : List ℕ) → (m : ℕ) × (moves ts (to (opened n outer ns)) ≡ moves rest (to (after m (n ∷ outer) ms)))
+      → (outer : List ℕ) → (m : ℕ) × (moves ts (to (opened n outer ns)) ≡ moves rest (to (after m (n ∷ outer) ms)))
   paths (child {n = n} {ns = ns} s f) outer =
       let (m, e) = furthers f n outer in
       (m, steps s (n ∷ outer) (opened n outer ns) (λ t h. on-path-test t _ _ h) ∙ e)
   paths (descendant {n = n} {d = a} {s = b} {ns = ns} {ts = ts} d dd s f) outer =
-      let (m, e) = furthers f n outer in
-      (m, ap (λ k. moves (b ∷ ts) (on-path k (dotted n outer ns) (with-node n Child (n ∷ outer) ns a))) d
-        ∙ ap (λ k. moves ts (on-double k (below n outer ns))) dd
-        ∙ steps s (n ∷ outer) (below n outer ns) (λ t h. on-test-test t _ h) ∙ e)
+      let (m, e) = furthers f n outer in (
+        m,
+        ap (λ k. moves (b ∷ ts) (on-path k (dotted n outer ns) (with-node n Child (n ∷ outer) ns a))) d
+            ∙ ap (λ k. moves ts (on-double k (below n outer ns))) dd
+            ∙ steps s (n ∷ outer) (below n outer ns) (λ t h. on-test-test t _ h) ∙ e,
+      )
 
   furthers : {n : ℕ} {ns ms : List ParsedNode} {ts rest : List Token} → Further n ns ts ms rest
-    → (k : ℕ) (outer : List ℕ) → (m : ℕ) × (moves ts (to (after n (k ∷ outer) ns)) ≡ moves rest (to (after m (k ∷ outer) ms)))
+      → (k : ℕ) (outer : List ℕ) → (m : ℕ) × (moves ts (to (after n (k ∷ outer) ns)) ≡ moves rest (to (after m (k ∷ outer) ms)))
   furthers (last {n = n}) k outer = (n, refl)
   furthers (further {n = n} {e = e} {s = b} {ns = ns} {ts = ts} h s f) k outer =
       let (m, q) = furthers f k outer in
@@ -71,9 +73,9 @@ complete (text {ns = ns} {ts = ts} d s e) =
 -- behind the step n, with the predicates of outer open, ts go on to the end of the text
 data After : ℕ → List ℕ → List ParsedNode → List Token → List ParsedNode → Type 0 where
   closes : {n : ℕ} {e : Token} {ns fs : List ParsedNode} {ts : List Token}
-    → Predicates n ns ts fs (e ∷ []) → e .kind ≡ End → After n [] ns ts fs
+      → Predicates n ns ts fs (e ∷ []) → e .kind ≡ End → After n [] ns ts fs
   goes : {n k : ℕ} {outer : List ℕ} {c : Token} {ns ks ms fs : List ParsedNode} {ts us vs : List Token}
-    → Predicates n ns ts ks us → Further n ks us ms (c ∷ vs) → c .kind ≡ Close → After k outer ms vs fs → After n (k ∷ outer) ns ts fs
+      → Predicates n ns ts ks us → Further n ks us ms (c ∷ vs) → c .kind ≡ Close → After k outer ms vs fs → After n (k ∷ outer) ns ts fs
 
 record Closed (p : ℕ) (e : Edge) (k : ℕ) (outer : List ℕ) (ns : List ParsedNode) (ts : List Token) (fs : List ParsedNode) : Type 0 where
   ks : List ParsedNode
@@ -157,7 +159,7 @@ test-only t Stray h s ts f e = no-move ts f e
 test-only t End h s ts f e = no-move ts f e
 
 path-only : (t : Token) (k : Kind) → t .kind ≡ k → (d s : State) (ts : List Token) (f : State) → moves ts (on-path k d s) ≡ to f
-  → ((t .kind ≡ Dot) × (moves ts (to d) ≡ to f)) ⊎ (Test t × (moves ts (to s) ≡ to f))
+    → ((t .kind ≡ Dot) × (moves ts (to d) ≡ to f)) ⊎ (Test t × (moves ts (to s) ≡ to f))
 path-only t DoubleSlash h d s ts f e = no-move ts f e
 path-only t Slash h d s ts f e = no-move ts f e
 path-only t Dot h d s ts f e = inl (h, e)
@@ -170,7 +172,7 @@ path-only t End h d s ts f e = no-move ts f e
 
 -- a step in front of what goes on behind it
 join : {p : ℕ} {e : Edge} {k : ℕ} {outer : List ℕ} {ns fs : List ParsedNode} {t : Token} {ts : List Token}
-  → Test t → After (length ns) (k ∷ outer) (ns ++ (node p e t ∷ [])) ts fs → Closed p e k outer ns (t ∷ ts) fs
+    → Test t → After (length ns) (k ∷ outer) (ns ++ (node p e t ∷ [])) ts fs → Closed p e k outer ns (t ∷ ts) fs
 join h (goes ps fur c a) = record { ks = _; us = _; ms = _; c = _; vs = _; steps-on = step h ps; furthers-on = fur; closing = c; goes-on = a }
 
 join-root : {fs : List ParsedNode} {t : Token} {ts : List Token} → Test t → After 0 [] ([] ++ (node 0 Child t ∷ [])) ts fs → Rooted (t ∷ ts) fs
@@ -216,8 +218,8 @@ after-only t End h n (k ∷ outer) ns ts f e = no-move ts f e
 
 -- how the grammar goes on behind a step, by what is read next and what goes on behind that
 glue : (t : Token) (n : ℕ) (outer : List ℕ) (ns : List ParsedNode) (ts : List Token) (fs : List ParsedNode)
-  → ((s : State) → moves ts (to s) ≡ to (ended fs) → Completes s ts fs)
-  → Goes-on t n ns ts (ended fs) outer → After n outer ns (t ∷ ts) fs
+    → ((s : State) → moves ts (to s) ≡ to (ended fs) → Completes s ts fs)
+    → Goes-on t n ns ts (ended fs) outer → After n outer ns (t ∷ ts) fs
 glue t n outer ns ts fs ih (by-open h e) = add-predicate h (ih _ e)
 glue t n outer ns ts fs ih (by-close h e) = goes none last h (ih _ e)
 glue t n outer ns ts fs ih (by-between h e) = add-further h (ih _ e)
@@ -244,8 +246,8 @@ soundly (t ∷ ts) fs root e =
 soundly (t ∷ ts) fs (after n outer ns) e = glue t n outer ns ts fs (λ s q. soundly ts fs s q) (after-only t (t .kind) refl n outer ns ts (ended fs) e)
 soundly (t ∷ ts) fs (opened n outer ns) e =
     elim (path-only t (t .kind) refl _ _ ts (ended fs) e) [
-      inl h ↦ soundly ts fs (dotted n outer ns) (h .1) t (h .0)
-    | inr h ↦ open-path (join (h .0) (soundly ts fs _ (h .1)))
+      | inl h ↦ soundly ts fs (dotted n outer ns) (h .1) t (h .0)
+      | inr h ↦ open-path (join (h .0) (soundly ts fs _ (h .1)))
     ]
 soundly (t ∷ ts) fs (dotted n outer ns) e =
     let (h, q) = double-only (t .kind) _ ts (ended fs) e in

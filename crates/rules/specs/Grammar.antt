@@ -31,49 +31,49 @@ mutual
   -- a step under the rule node `parent`
   pub data Step : ℕ → Edge → List ParsedNode → List Token → List ParsedNode → List Token → Type 0 where
     step : {p : ℕ} {e : Edge} {t : Token} {ns ms : List ParsedNode} {ts rest : List Token}
-      → Test t
-      → Predicates (length ns) (ns ++ (node p e t ∷ [])) ts ms rest
-      → Step p e ns (t ∷ ts) ms rest
+        → Test t
+        → Predicates (length ns) (ns ++ (node p e t ∷ [])) ts ms rest
+        → Step p e ns (t ∷ ts) ms rest
 
   -- predicates, if any, of the step n
   pub data Predicates : ℕ → List ParsedNode → List Token → List ParsedNode → List Token → Type 0 where
     none : {n : ℕ} {ns : List ParsedNode} {ts : List Token} → Predicates n ns ts ns ts
     predicate : {n : ℕ} {o c : Token} {ns ks ms : List ParsedNode} {ts us rest : List Token}
-      → o .kind ≡ Open
-      → Path n ns ts ks (c ∷ us)
-      → c .kind ≡ Close
-      → Predicates n ks us ms rest
-      → Predicates n ns (o ∷ ts) ms rest
+        → o .kind ≡ Open
+        → Path n ns ts ks (c ∷ us)
+        → c .kind ≡ Close
+        → Predicates n ks us ms rest
+        → Predicates n ns (o ∷ ts) ms rest
 
   -- a path in a predicate of the step n
   pub data Path : ℕ → List ParsedNode → List Token → List ParsedNode → List Token → Type 0 where
     child : {n : ℕ} {ns ks ms : List ParsedNode} {ts us rest : List Token}
-      → Step n Child ns ts ks us
-      → Further (length ns) ks us ms rest
-      → Path n ns ts ms rest
+        → Step n Child ns ts ks us
+        → Further (length ns) ks us ms rest
+        → Path n ns ts ms rest
     descendant : {n : ℕ} {d s : Token} {ns ks ms : List ParsedNode} {ts us rest : List Token}
-      → d .kind ≡ Dot
-      → s .kind ≡ DoubleSlash
-      → Step n Descendant ns ts ks us
-      → Further (length ns) ks us ms rest
-      → Path n ns (d ∷ s ∷ ts) ms rest
+        → d .kind ≡ Dot
+        → s .kind ≡ DoubleSlash
+        → Step n Descendant ns ts ks us
+        → Further (length ns) ks us ms rest
+        → Path n ns (d ∷ s ∷ ts) ms rest
 
   -- further steps, if any, behind the step n of a path
   pub data Further : ℕ → List ParsedNode → List Token → List ParsedNode → List Token → Type 0 where
     last : {n : ℕ} {ns : List ParsedNode} {ts : List Token} → Further n ns ts ns ts
     further : {n : ℕ} {e : Edge} {s : Token} {ns ks ms : List ParsedNode} {ts us rest : List Token}
-      → Between s e
-      → Step n e ns ts ks us
-      → Further (length ns) ks us ms rest
-      → Further n ns (s ∷ ts) ms rest
+        → Between s e
+        → Step n e ns ts ks us
+        → Further (length ns) ks us ms rest
+        → Further n ns (s ∷ ts) ms rest
 
 -- a rule text, of which the end is the last token
 pub data Text : List Token → List ParsedNode → Type 0 where
   text : {s e : Token} {ns : List ParsedNode} {ts : List Token}
-    → s .kind ≡ DoubleSlash
-    → Step 0 Child [] ts ns (e ∷ [])
-    → e .kind ≡ End
-    → Text (s ∷ ts) ns
+      → s .kind ≡ DoubleSlash
+      → Step 0 Child [] ts ns (e ∷ [])
+      → e .kind ≡ End
+      → Text (s ∷ ts) ns
 
 -- the tokens ts begin some rule text
 abbrev pub Begins : List Token → Type 0

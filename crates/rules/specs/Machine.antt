@@ -13,7 +13,7 @@ use Rattle.rules.specs.declared.node.Edge.{Edge}
 use Rattle.rules.specs.declared.node.Edge.the-variants.{Child, Descendant}
 use Rattle.rules.specs.declared.syntax.ParsedNode.{ParsedNode}
 use Rattle.rules.specs.Grammar.{node}
-use Rattle.rules.specs.Lexing.{white, starts, inside}
+use Rattle.labels.specs.Spelling.{white, starts, inside}
 
 -- What was read last. n is the step to which what follows belongs, outer are the steps with open
 -- predicates, ns the rule nodes so far.
@@ -154,7 +154,6 @@ run [] (dotted n outer ns) = unfinished
 run [] (below n outer ns) = unfinished
 run [] (more e n k outer ns) = unfinished
 run (t ∷ ts) s = go (move s t) (excess s t) (t .place) (λ u. run ts u)
-
 
 ------------------------------------------------------------------------
 -- the tokens of bytes, computed

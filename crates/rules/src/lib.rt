@@ -1,7 +1,7 @@
 mod lexer;
-mod parser;
 pub mod node;
-pub mod reader;
+mod reader;
 pub mod refusal;
 pub mod rule;
-pub mod syntax;
+mod syntax;
+pub mod text;
