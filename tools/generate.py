@@ -104,8 +104,9 @@ def pieces(r, tree, plain=False):
         for child in node.children:
             element(child)
             content(GOOD_CONTENT)
-        spaces = r.choice([b" ", b"\n", b"\t\r "]) if chance(r, decorated) else b""
-        out.append(b"</" + node.label + spaces + b">")
+        white = r.choice([b" ", b"\n", b"\t\r "])
+        out.append(b"</" + node.label
+                   + (white if chance(r, decorated) else b"") + b">")
 
     content(GOOD_OUTSIDE)
     element(tree)
@@ -284,7 +285,8 @@ FIXED_RULES = [
     b"/a", b"a", b"*", b".", b"[", b"]", b"/", b"//", b"///a", b"////a",
     b"/ /a", b"// a", b" //a ", b"//a//b", b"//a/b", b"//a]", b"//a[]",
     b"//a[b]]", b"//a[b][c", b"//a[b", b"//a[", b"//a[//b]", b"//a[/b]",
-    b"//a[./b]", b"//a[..//b]", b"//a[.//]", b"//a[.]", b"//a[.b]",
+    b"//a[./b]", b"//a[..//b]", b"//a[..]", b"//a[../b]", b"//..", b"//a..",
+    b"//a[b/..]", b"//a[...//b]", b"//a[.//]", b"//a[.]", b"//a[.b]",
     b"//a[.*]", b"//a[ . // b ]", b"//a[. / / b]", b"//a[b.//c]",
     b"//a[b .//c]", b"//a[b/.//c]", b"//a[b/]", b"//a[b//]", b"//a[b///c]",
     b"//a[b/c//d]", b"//a[b//c/d]", b"//a[b[c]/d]", b"//a[.//b[c]//d][e]",
@@ -336,7 +338,7 @@ def rule_cut(r):
 def rule_tests_limit(r):
     """63 to 66 tests, in one of several shapes, some with a bad last one."""
     count = r.choice([63, 64, 64, 65, 65, 65, 66])
-    last = r.choice([b"a", b"b", b"*", b"n" * 32, b"n" * 33, b"", b"$", b"]"])
+    last = r.choice([b"a", b"*", b"n" * 32, b"n" * 33, b"n" * 33, b"", b"$"])
     shape = r.randrange(4)
     if shape == 0:
         text = b"//*" + b"[a]" * (count - 2) + b"[" + last + b"]"
@@ -403,7 +405,8 @@ ODD_MARKUP = [
     b"<!-->", b"<!--->", b"<!---->", b"<!----->", b"<!------>", b"<!-- -- -->",
     b"<!--x--", b"<!--x-", b"<!--", b"<!-- -->", b"<!-- --->", b"<!", b"<!-",
     b"<!->", b"<!-a-->", b"<!>", b"<!a", b"<! -- -->", b"<!DOCTYPE a>",
-    b"<!DOCTYPE a [<!ELEMENT a ANY>]>", b"<![CDATA[x]]>", b"<![CDATA[", b"<?>", b"<??>", b"<???>",
+    b"<!DOCTYPE a [<!ELEMENT a ANY>]>", b"<![CDATA[x]]>", b"<![CDATA[",
+    b"<?>", b"<??>", b"<???>",
     b"<?", b"<?x", b"<?x?", b"<? ?>", b"<a/ >", b"<a//>", b"<a /b>", b"<a / >",
     b"<a b=c/>", b"<a //>", b"<a b='<'/>", b"<a b='>'/>", b"<a/", b"<a", b"<a ",
     b"<a/b>", b"<a/<", b"<a<b/>", b"<a <b/>", b"<a>", b"<a >", b"<a\n/>",
@@ -474,21 +477,27 @@ def wrong_end_tag(r):
     return with_rule(r, tree, parts)
 
 
+AT_THE_LOWEST = [
+    b"", b"<a/>", b"<a/>", b"<a></a>", b"<a", b"<a ", b"<a/x", b"<a<",
+    b"<" + b"n" * 32 + b"/>", b"<" + b"n" * 33 + b"/>",
+    b"<" + b"n" * 33, b"<" + b"n" * 33 + b" ", b"<", b"<1", b"<>", b"<!", b"<!-- -->", b"<?x?>", b"text", b"</", b"</>",
+    b"</zz>", b"</" + b"n" * 33,
+]
+
+
 def depth_limit(r):
-    """127 to 130 levels, and odd things at the lowest."""
-    count = r.choice([127, 128, 128, 128, 129, 129, 130])
-    tree = a_chain(r, count)
-    parts = pieces(r, tree, plain=True)
-    if chance(r, 0.6):
-        at = parts.index(next(part for part in parts
-                              if part[:2] == b"</" or part[-2:] == b"/>"))
-        parts.insert(at, r.choice(ODD_MARKUP + [b"<a/>"] * 20))
-        if chance(r, 0.2):
-            del parts[at + 1:]
+    """127 to 130 levels, and all sorts of things at the lowest."""
+    count = r.choice([127, 128, 128, 128, 128, 129, 129, 130])
+    names = [a_name(r) for _ in range(count)]
+    opening = [b"<" + name + b">" for name in names]
+    closing = [b"</" + name + b">" for name in reversed(names)]
+    if chance(r, 0.2):
+        closing = []
     for _ in range(r.choice([0, 2, 5])):
-        parts.insert(r.randint(1, 100), r.choice([b"<b/>", b"<b><a/></b>"]))
+        opening.insert(r.randint(1, 120), r.choice([b"<b/>", b"<b><a/></b>"]))
     rule = r.choice([b"//*", b"//a", b"//b", b"//*[*/*]", b"//a[.//b]"])
-    return rule + b"\n" + b"".join(parts)
+    lowest = [r.choice(AT_THE_LOWEST)]
+    return rule + b"\n" + b"".join(opening + lowest + closing)
 
 
 def depth_again(r):
@@ -532,6 +541,17 @@ def listing_cut(r):
     listing = a_listing(r, tree)
     at = r.randrange(len(listing) + 1)
     return a_rule(r, tree) + b"\n" + listing[:at]
+
+
+def markup_cut(r):
+    """A listing that ends inside a piece of markup."""
+    markup = r.choice([b"<!-- x -->", b"<!---->", b"<!--->-->", b"<?x y?>",
+                       b"<??>", b"<a b='c'/>", b"<a />", b"<a/>", b"<a >",
+                       b"</a >", b"</a>", b"</b>", b"<!DOCTYPE a>"])
+    before = r.choice([b"", b" ", b"<a>", b"<a><b/>", b"<a>text", b"<a/>",
+                       b"<b><a></a></b>\n"])
+    rule = r.choice([b"//*", b"//a", b"//b"])
+    return rule + b"\n" + before + markup[:r.randint(1, len(markup))]
 
 
 def listing_soup(r):
@@ -593,8 +613,8 @@ KINDS = [
     (listing_bytes_damaged, 60), (odd_markup, 80), (pieces_damaged, 30),
     (wrong_end_tag, 40), (depth_limit, 40), (depth_again, 6),
     (xml_name_limit, 40), (outside_root, 40), (listing_cut, 30),
-    (listing_soup, 60), (size_limit, 14), (no_line_end, 14),
-    (whole_damaged, 20), (noise, 20),
+    (markup_cut, 40), (listing_soup, 60),
+    (size_limit, 14), (no_line_end, 14), (whole_damaged, 20), (noise, 20),
 ]
 
 

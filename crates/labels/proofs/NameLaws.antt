@@ -286,10 +286,12 @@ is-name-of bs n h e =
     let few : length bs ≤ name-limit = subst (λ (xs : List ℕ). length xs ≤ name-limit) e (let l = length-bytes n in let f = n .few in omega arith) in
     bytes-one n (name-of bs) (e ∙ sym (name-bytes bs few (every-place (λ b. b < 256) bs h)))
 
+pub kept-short : (bs : List ℕ) → length bs ≤ name-limit → kept-name bs ≡ bs
+kept-short bs few = cond-false (ltb name-limit (length bs)) [] bs (le-ltb name-limit (length bs) few)
+
 -- a name keeps the bytes that it was made from
 pub kept-all : (bs : List ℕ) (n : Name) → bytes-of n ≡ bs → bytes-of n ≡ kept-name bs
 kept-all bs n e =
     let l = length-bytes n in
     let f = n .few in
-    let few : length bs ≤ name-limit = subst (λ (xs : List ℕ). length xs ≤ name-limit) e (omega arith) in
-    e ∙ sym (cond-false (ltb name-limit (length bs)) [] bs (le-ltb name-limit (length bs) few))
+    e ∙ sym (kept-short bs (subst (λ (xs : List ℕ). length xs ≤ name-limit) e (omega arith)))

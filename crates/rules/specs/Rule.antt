@@ -12,6 +12,10 @@ use Rattle.rules.specs.declared.node.RuleNode.{RuleNode}
 abbrev pub blank : RuleNode
 blank = record { parent = 0; edge = Child; any = false }
 
+-- a root that every label meets
+abbrev pub any-node : RuleNode
+any-node = record { parent = 0; edge = Child; any = true }
+
 abbrev pub parentOf : List RuleNode → ℕ → ℕ
 parentOf rule x = getD rule x blank .parent
 

@@ -1,5 +1,6 @@
 mod lexer;
 pub mod node;
+pub mod nodes;
 mod reader;
 pub mod refusal;
 pub mod rule;
