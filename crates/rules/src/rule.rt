@@ -1,6 +1,6 @@
 // The value of a rule.
 ghost use Prim.Native.Nat.{_<_, _≤_};
-ghost use lib.ListN.{take};
+ghost use lib.ListN.{length, take};
 ghost use Rattle.rules.specs.Rule.{Rooted, Ordered};
 use crate::node::RuleNode;
 
@@ -12,7 +12,7 @@ pub const RULE_NODES: usize = 64;
 pub struct Rule {
     pub(crate) nodes: [RuleNode; 64],
     pub(crate) len: usize,
-    ghost some: { 0 < len },
+    ghost some: { 0 < length (take len nodes) },
     ghost few: { len ≤ 64 },
     ghost rooted: { Rooted (take len nodes) },
     ghost ordered: { Ordered (take len nodes) },

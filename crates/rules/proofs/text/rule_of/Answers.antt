@@ -1,11 +1,12 @@
 use mathlib.Core.Path.{_≡_, sym, ap, subst, _∙_}
 use mathlib.Core.List.{List}
+use Prim.Native.Nat.{_<_}
 use native.Mathlib.Omega.{arith}
 use lib.ListN.{length, take}
-use Rattle.std.proofs.shelf.Lists.{length-set}
+use Rattle.std.proofs.shelf.Lists.{length-set, length-map}
 use Rattle.rules.specs.declared.node.RuleNode.{RuleNode}
 use Rattle.rules.specs.Rule.{Rooted, Ordered}
-use Rattle.rules.specs.Expression.{rule-of}
+use Rattle.rules.specs.Expression.{plain, rule-of}
 use Rattle.rules.proofs.Made.{make-more, make-all}
 use Rattle.rules.proofs.Written.{blank}
 use Rattle.rules.proofs.text.rule_of.Needs as need
@@ -22,7 +23,7 @@ whole c = make-all (c .loop-i .made) (c .args .nodes .now) (c .loop-i .i) (c .lo
 
 pub ghost-result : need.ghost-result
 ghost-result c = (
-  c .pre .some,
+  subst (λ (ns : List RuleNode). 0 < length ns) (sym (whole c)) (let some = c .pre .some in omega (arith, length-map (c .args .nodes .now) plain)),
   (
     c .pre .few,
     (

@@ -1,0 +1,4 @@
+pub mod BitLaws
+pub mod SetLaws
+pub mod EdgeLaws
+pub mod NthLaws

@@ -1,0 +1,3 @@
+pub mod bits;
+pub mod edges;
+pub mod search;
