@@ -19,8 +19,7 @@ use Rattle.rules.specs.declared.syntax.ParsedNode.{ParsedNode}
 use Rattle.rules.specs.declared.node.RuleNode.{RuleNode}
 use Rattle.rules.specs.Grammar.{Test, name, star, Text}
 use Rattle.rules.specs.Rule.{blank, parentOf, edgeOf, anyOf}
-use Rattle.rules.specs.Embedding.{Below, direct, deeper, Embedding, Nodes, ChildIn, Meets, MeetsIn, OccursIn, ParentsFirst}
-use Rattle.rules.proofs.Edges.{Across, edges-of, embedding}
+use Rattle.rules.specs.Embedding.{Below, direct, deeper, Across, Embedding, Nodes, ChildIn, Meets, MeetsIn, OccursIn, ParentsFirst}
 use Rattle.rules.specs.XPath.{Context, ChildOf, Selected}
 use Rattle.rules.specs.Expression.{word, is-star, plain, rule-of, ParentIn, CalledIn, expression, Stands-for, stands-for, Selects-alike, Plain-readings}
 use Rattle.rules.specs.XPath.{LocationPath}
@@ -98,10 +97,10 @@ module _ {L : Type 0} (same : L → L → Bool) (spelled : L → List ℕ) (alik
     edges : (k : ℕ) (n : ParsedNode) → nth ns k ≡ Some n → 0 < k → Across (ChildIn nodes) (n .edge) (φ (n .parent)) (φ k)
     edges k n h pos =
         subst (λ (z : RuleNode). Across (ChildIn nodes) (z .edge) (φ (z .parent)) (φ k)) (rule-at ns k n h)
-        (edges-of (rule-of ns) (ChildIn nodes) (MeetsIn same (rule-of ns) labels nodes) v φ m k pos (within k n h))
+        (m .edges k pos (within k n h))
 
   embeds : v < length nodes → Mapping bs (ParentIn nodes) (CalledIn spelled alike nodes) ns φ → φ 0 ≡ v → Embedding (rule-of ns) (ChildIn nodes) (MeetsIn same (rule-of ns) labels nodes) v φ
-  embeds inside l r = embedding (rule-of ns) (ChildIn nodes) (MeetsIn same (rule-of ns) labels nodes) v φ r tests edge-at
+  embeds inside l r = record { root = r; tests = tests; edges = edge-at }
     where
       node-at : (k : ℕ) → k < length (rule-of ns) → (n : ParsedNode) × (nth ns k ≡ Some n)
       node-at k h = some-at ns k (omega (arith, length-map ns plain))

@@ -18,8 +18,7 @@ use Rattle.rules.specs.declared.node.Edge.{Edge}
 use Rattle.rules.specs.declared.node.Edge.the-variants as edge
 use Rattle.rules.specs.declared.syntax.ParsedNode.{ParsedNode}
 use Rattle.rules.specs.Grammar.{Test, name, star, Between, slash, double-slash, node, Step, step, Predicates, none, predicate, Path, child, descendant, Further, last, further, Text, text}
-use Rattle.rules.specs.Embedding.{Below, direct, deeper}
-use Rattle.rules.proofs.Edges.{Across}
+use Rattle.rules.specs.Embedding.{Below, direct, deeper, Across}
 use Rattle.rules.specs.XPath as x
 use Rattle.rules.specs.XPath.{Context, LocationPath, LocationStep, ChildOf, On, Passes, InPath, InStep, Hold, Selected}
 use Rattle.rules.specs.Expression.{word, anywhere, here, apart, test-of, step-of, predicates-of, path-of, further-of, expression}

@@ -9,6 +9,7 @@ use Rattle.std.specs.declared.option.Option.{Option}
 use Rattle.std.specs.declared.option.Option.the-variants.{Some}
 use Rattle.std.specs.shelf.Maps.{nth}
 use Rattle.rules.specs.Rule.{parentOf, edgeOf, anyOf}
+use Rattle.rules.specs.declared.node.Edge.{Edge}
 use Rattle.rules.specs.declared.node.Edge.the-variants.{Child as child, Descendant as descendant}
 use Rattle.rules.specs.declared.node.RuleNode.{RuleNode}
 
@@ -17,13 +18,17 @@ pub data Below {A : Type 0} (Child : A → A → Type 0) : A → A → Type 0 wh
   direct : {u v : A} → Child u v → Below Child u v
   deeper : {u w v : A} → Child u w → Below Child w v → Below Child u v
 
+-- what an edge of a rule demands of the images of its ends
+abbrev pub Across : (ℕ → ℕ → Type 0) → Edge → ℕ → ℕ → Type 0
+Across Child child u v = Child u v
+Across Child descendant u v = Below Child u v
+
 -- φ maps the rule nodes to nodes: the root to v, each to a node that meets its test, along a child edge to a child and
 -- along a descendant edge to a proper descendant. Several rule nodes may share an image.
 pub record Embedding (rule : List RuleNode) (Child Meets : ℕ → ℕ → Type 0) (v : ℕ) (φ : ℕ → ℕ) : Type 0 where
   pub root : φ 0 ≡ v
   pub tests : (x : ℕ) → x < length rule → Meets x (φ x)
-  pub children : (x : ℕ) → 0 < x → x < length rule → edgeOf rule x ≡ child → Child (φ (parentOf rule x)) (φ x)
-  pub descendants : (x : ℕ) → 0 < x → x < length rule → edgeOf rule x ≡ descendant → Below Child (φ (parentOf rule x)) (φ x)
+  pub edges : (x : ℕ) → 0 < x → x < length rule → Across Child (edgeOf rule x) (φ (parentOf rule x)) (φ x)
 
 -- the rule occurs at v
 abbrev pub Occurs : List RuleNode → (ℕ → ℕ → Type 0) → (ℕ → ℕ → Type 0) → ℕ → Type 0

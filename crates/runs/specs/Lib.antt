@@ -1,2 +1,5 @@
 pub mod Bits
 pub mod Edges
+pub mod Words
+pub mod Model
+pub mod Stands
