@@ -56,36 +56,40 @@ module _ (rule : List RuleNode) (ordered : Ordered rule) (some : 0 < length rule
   extend n φ a b h =
       let o : parentOf rule n < n = ordered n a b in
       let r = next (up n) (φ (up n)) n (h .parts (up n) o) a b refl in
-      let c = r .0 in
-      ( put φ n c
-      , record {
+      let c = r .0 in (
+        put φ n c,
+        record {
           root = put-other φ n c 0 a ∙ h .root;
           parts = λ x l. ⊎-elim
               (λ k. let P : ℕ → Type 0 = λ z. Fits rule C M x z in subst P (sym (put-other φ n c x k)) (h .parts x k))
               (λ k. let e : n ≡ x = omega arith in
-                  let P : ℕ → Type 0 = λ z. Fits rule C M z (put φ n c z) in
-                  let Q : ℕ → Type 0 = λ z. Fits rule C M n z in
-                  subst P e (subst Q (sym (put-same φ n c)) (r .2)))
+              let P : ℕ → Type 0 = λ z. Fits rule C M z (put φ n c z) in
+              let Q : ℕ → Type 0 = λ z. Fits rule C M n z in
+              subst P e (subst Q (sym (put-same φ n c)) (r .2)))
               (cases-lt x n);
           edges = λ x p l. ⊎-elim
               (λ k. let q : parentOf rule x < n = let w : parentOf rule x < x = ordered x p (omega arith) in omega arith in
-                  let P : ℕ → Type 0 = λ z. Across C (edgeOf rule x) z (put φ n c x) in
-                  let Q : ℕ → Type 0 = λ z. Across C (edgeOf rule x) (φ (up x)) z in
-                  subst P (sym (put-other φ n c (up x) q)) (subst Q (sym (put-other φ n c x k)) (h .edges x p k)))
+              let P : ℕ → Type 0 = λ z. Across C (edgeOf rule x) z (put φ n c x) in
+              let Q : ℕ → Type 0 = λ z. Across C (edgeOf rule x) (φ (up x)) z in
+              subst P (sym (put-other φ n c (up x) q)) (subst Q (sym (put-other φ n c x k)) (h .edges x p k)))
               (λ k. let e : n ≡ x = omega arith in
-                  let R : ℕ → Type 0 = λ z. Across C (edgeOf rule z) (put φ n c (up z)) (put φ n c z) in
-                  let P : ℕ → Type 0 = λ z. Across C (edgeOf rule n) z (put φ n c n) in
-                  let Q : ℕ → Type 0 = λ z. Across C (edgeOf rule n) (φ (up n)) z in
-                  subst R e (subst P (sym (put-other φ n c (up n) o)) (subst Q (sym (put-same φ n c)) (r .1))))
-              (cases-lt x n) })
+              let R : ℕ → Type 0 = λ z. Across C (edgeOf rule z) (put φ n c (up z)) (put φ n c z) in
+              let P : ℕ → Type 0 = λ z. Across C (edgeOf rule n) z (put φ n c n) in
+              let Q : ℕ → Type 0 = λ z. Across C (edgeOf rule n) (φ (up n)) z in
+              subst R e (subst P (sym (put-other φ n c (up n) o)) (subst Q (sym (put-same φ n c)) (r .1))))
+              (cases-lt x n);
+        },
+      )
 
   mapped-up : Fits rule C M 0 v → (n : ℕ) → suc n ≤ length rule → (φ : ℕ → ℕ) × Mapped-below (suc n) φ
-  mapped-up f zero h =
-      ( λ x. v
-      , record {
-          root = refl;
-          parts = λ x l. let e : 0 ≡ x = omega arith in let P : ℕ → Type 0 = λ z. Fits rule C M z v in subst P e f;
-          edges = λ x a l. let z : ⊥ = omega arith in absurd z })
+  mapped-up f zero h = (
+    λ x. v,
+    record {
+      root = refl;
+      parts = λ x l. let e : 0 ≡ x = omega arith in let P : ℕ → Type 0 = λ z. Fits rule C M z v in subst P e f;
+      edges = λ x a l. let z : ⊥ = omega arith in absurd z;
+    },
+  )
   mapped-up f (suc n) h =
       let r = mapped-up f n (omega arith) in
       let s = extend (suc n) (r .0) (omega arith) (omega arith) (r .1) in

@@ -60,9 +60,9 @@ module _ (rule : List RuleNode) (C M : ℕ → ℕ → Type 0) (v : ℕ) (l : Le
   hangs? x y =
       ⊎-elim
       (λ a. ⊎-elim
-          (λ b. ⊎-elim (λ e. inl (a, b, e)) (λ n. inr (λ h. n (h .2))) (cases-eq (parentOf rule y) x))
-          (λ b. inr (λ h. let z : ⊥ = omega (arith, h .1) in z))
-          (cases-lt y (length rule)))
+      (λ b. ⊎-elim (λ e. inl (a, b, e)) (λ n. inr (λ h. n (h .2))) (cases-eq (parentOf rule y) x))
+      (λ b. inr (λ h. let z : ⊥ = omega (arith, h .1) in z))
+      (cases-lt y (length rule)))
       (λ a. inr (λ h. let z : ⊥ = omega (arith, h .0) in z))
       (cases-lt 0 y)
 

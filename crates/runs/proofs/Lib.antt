@@ -6,3 +6,7 @@ pub mod WordLaws
 pub mod FitLaws
 pub mod EmbedLaws
 pub mod PathLaws
+pub mod OpenSim
+pub mod CloseSim
+pub mod TakeSim
+pub mod RunLaws

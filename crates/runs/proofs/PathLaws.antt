@@ -58,12 +58,15 @@ pub level-keep : (rule : List RuleNode) (m m′ : Tree) (u : ℕ) (l : Level)
 level-keep rule m m′ u l same done fits within k = record {
   number = k .number;
   met = (k .met .0, same (k .met .0) (l .met) (k .met .1));
-  child = λ y.
-      ( λ h. let r = k .child y .0 h in (r .0, done (r .0) .0 (r .1), fits (r .0) y (r .1) .0 (r .2))
-      , λ r. let q = done (r .0) .1 (r .1) in k .child y .1 (r .0, q, fits (r .0) y q .1 (r .2)));
-  below = λ y.
-      ( λ h. let r = k .below y .0 h in (r .0, done (r .0) .0 (r .1), within (r .0) y (r .1) .0 (r .2))
-      , λ r. let q = done (r .0) .1 (r .1) in k .below y .1 (r .0, q, within (r .0) y q .1 (r .2))) }
+  child = λ y. (
+    λ h. let r = k .child y .0 h in (r .0, done (r .0) .0 (r .1), fits (r .0) y (r .1) .0 (r .2)),
+    λ r. let q = done (r .0) .1 (r .1) in k .child y .1 (r .0, q, fits (r .0) y q .1 (r .2)),
+  );
+  below = λ y. (
+    λ h. let r = k .below y .0 h in (r .0, done (r .0) .0 (r .1), within (r .0) y (r .1) .0 (r .2)),
+    λ r. let q = done (r .0) .1 (r .1) in k .below y .1 (r .0, q, within (r .0) y q .1 (r .2)),
+  );
+}
 
 pub levels-keep : (rule : List RuleNode) (m m′ : Tree) (vs : List ℕ) (ls : List Level)
     → ((u : ℕ) (l : Level) → In u vs → LevelStands rule m u l → LevelStands rule m′ u l)
@@ -85,13 +88,15 @@ module _ (rule : List RuleNode) (m m′ : Tree) (Q : ℕ → Type 0)
   again x v q h = (h .0, h .1, same v q ∙ h .2, h .3)
 
   pub fits-same : (d y : ℕ) → Q d → FitsAt rule m y d ↔ FitsAt rule m′ y d
-  fits-same d y q =
-      ( fits-moves rule (KeptChild m) (KeptChild m′) (MeetsAt Has m) (MeetsAt Has m′) Q fw there q
-      , fits-moves rule (KeptChild m′) (KeptChild m) (MeetsAt Has m′) (MeetsAt Has m) Q bw again q)
+  fits-same d y q = (
+    fits-moves rule (KeptChild m) (KeptChild m′) (MeetsAt Has m) (MeetsAt Has m′) Q fw there q,
+    fits-moves rule (KeptChild m′) (KeptChild m) (MeetsAt Has m′) (MeetsAt Has m) Q bw again q,
+  )
 
   pub within-same : (d y : ℕ) → Q d → FitsWithin rule m y d ↔ FitsWithin rule m′ y d
-  within-same d y q =
-      ( ⊎-elim (λ f. inl (fits-same d y q .0 f))
-          (λ r. let b = below-moves rule (KeptChild m) (KeptChild m′) (MeetsAt Has m) (MeetsAt Has m′) Q fw there q (r .1) in inr (r .0, b .1, fits-same (r .0) y (b .0) .0 (r .2)))
-      , ⊎-elim (λ f. inl (fits-same d y q .1 f))
-          (λ r. let b = below-moves rule (KeptChild m′) (KeptChild m) (MeetsAt Has m′) (MeetsAt Has m) Q bw again q (r .1) in inr (r .0, b .1, fits-same (r .0) y (b .0) .1 (r .2))))
+  within-same d y q = (
+    ⊎-elim (λ f. inl (fits-same d y q .0 f))
+        (λ r. let b = below-moves rule (KeptChild m) (KeptChild m′) (MeetsAt Has m) (MeetsAt Has m′) Q fw there q (r .1) in inr (r .0, b .1, fits-same (r .0) y (b .0) .0 (r .2))),
+    ⊎-elim (λ f. inl (fits-same d y q .1 f))
+        (λ r. let b = below-moves rule (KeptChild m′) (KeptChild m) (MeetsAt Has m′) (MeetsAt Has m) Q bw again q (r .1) in inr (r .0, b .1, fits-same (r .0) y (b .0) .1 (r .2))),
+  )

@@ -53,8 +53,8 @@ queued-set r i x h (suc n) apart =
     let e : h + 0 ≡ h = omega arith in
     let P : ℕ → Type 0 = λ k. k % 64 ≢ i in
     ap₂ (λ (a : ℕ) (ys : List ℕ). a ∷ ys)
-        (getD-set-other r i (h % 64) x 0 (subst P e (apart 0 (omega arith))))
-        (queued-set r i x (suc h) n (λ j l. let f : h + suc j ≡ suc h + j = omega arith in subst P f (apart (suc j) (omega arith))))
+    (getD-set-other r i (h % 64) x 0 (subst P e (apart 0 (omega arith))))
+    (queued-set r i x (suc h) n (λ j l. let f : h + suc j ≡ suc h + j = omega arith in subst P f (apart (suc j) (omega arith))))
 
 pub queued-wait : (r : List ℕ) (x h n : ℕ) → length r ≡ 64 → n < 64 → queued (set r ((h + n) % 64) x) h (n + 1) ≡ queued r h n ++ x ∷ []
 queued-wait r x h n len l =

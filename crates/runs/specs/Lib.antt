@@ -3,3 +3,4 @@ pub mod Edges
 pub mod Words
 pub mod Model
 pub mod Stands
+pub mod Calls

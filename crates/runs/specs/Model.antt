@@ -58,20 +58,20 @@ OccursAt rule meets m v = Occurs rule (KeptChild m) (MeetsAt meets m) v
 module _ {A : Type 0} (m : Model A) where
   abbrev pub opening : A → Model A
   opening a = record
-    { nodes = m .nodes ++ (innermost (m .path), a) ∷ []; path = length (m .nodes) ∷ m .path; dropped = m .dropped; closed = m .closed; waiting = m .waiting; handed = m .handed }
+      { nodes = m .nodes ++ (innermost (m .path), a) ∷ []; path = length (m .nodes) ∷ m .path; dropped = m .dropped; closed = m .closed; waiting = m .waiting; handed = m .handed }
 
   -- v is closed, and vs are open outside it
   abbrev pub closing : ℕ → List ℕ → List ℕ → Model A
   closing v vs selected = record
-    { nodes = m .nodes; path = vs; dropped = m .dropped; closed = m .closed ++ v ∷ []; waiting = m .waiting ++ selected; handed = m .handed }
+      { nodes = m .nodes; path = vs; dropped = m .dropped; closed = m .closed ++ v ∷ []; waiting = m .waiting ++ selected; handed = m .handed }
 
   abbrev pub dropping : ℕ → List ℕ → Model A
   dropping v vs = record
-    { nodes = m .nodes; path = vs; dropped = v ∷ m .dropped; closed = m .closed; waiting = m .waiting; handed = m .handed }
+      { nodes = m .nodes; path = vs; dropped = v ∷ m .dropped; closed = m .closed; waiting = m .waiting; handed = m .handed }
 
   abbrev pub taking : ℕ → Model A
   taking n = record
-    { nodes = m .nodes; path = m .path; dropped = m .dropped; closed = m .closed; waiting = drop n (m .waiting); handed = m .handed ++ take n (m .waiting) }
+      { nodes = m .nodes; path = m .path; dropped = m .dropped; closed = m .closed; waiting = drop n (m .waiting); handed = m .handed ++ take n (m .waiting) }
 
 -- One call, its answer, and the model after it. A refused call alters nothing.
 pub data Does {A : Type 0} (rule : List RuleNode) (meets : A → ℕ → Type 0) (m : Model A) : Call A → Answer → Model A → Type 0 where
@@ -80,11 +80,11 @@ pub data Does {A : Type 0} (rule : List RuleNode) (meets : A → ℕ → Type 0)
   opens : (a : A) → length (m .path) < 128 → length (m .nodes) < 1000000 → Does rule meets m (call.Open a) (Opened (length (m .nodes))) (opening m a)
   none-to-close : m .path ≡ [] → Does rule meets m call.Close (Refused NothingOpen) m
   waiting-full : (v : ℕ) (vs : List ℕ) → m .path ≡ v ∷ vs → OccursAt rule meets m v → length (m .waiting) ≡ 64
-    → Does rule meets m call.Close (Refused WaitingFull) m
+      → Does rule meets m call.Close (Refused WaitingFull) m
   selects : (v : ℕ) (vs : List ℕ) → m .path ≡ v ∷ vs → OccursAt rule meets m v → length (m .waiting) < 64
-    → Does rule meets m call.Close (Closed true) (closing m v vs (v ∷ []))
+      → Does rule meets m call.Close (Closed true) (closing m v vs (v ∷ []))
   passes : (v : ℕ) (vs : List ℕ) → m .path ≡ v ∷ vs → (OccursAt rule meets m v → ⊥)
-    → Does rule meets m call.Close (Closed false) (closing m v vs [])
+      → Does rule meets m call.Close (Closed false) (closing m v vs [])
   none-to-drop : m .path ≡ [] → Does rule meets m call.Drop (Refused NothingOpen) m
   drops : (v : ℕ) (vs : List ℕ) → m .path ≡ v ∷ vs → Does rule meets m call.Drop Dropped (dropping m v vs)
   takes : (n : ℕ) → Does rule meets m (call.Take n) (Taken (min (length (m .waiting)) n)) (taking m n)

@@ -20,9 +20,9 @@ use Rattle.runs.specs.Model.{Model, In, innermost, KeptChild, MeetsAt}
 -- its edge leads to. φ says where.
 pub data Fits (rule : List RuleNode) (Child Meets : ℕ → ℕ → Type 0) : ℕ → ℕ → Type 0 where
   fits : {x v : ℕ} (φ : ℕ → ℕ) → x < length rule → Meets x v
-    → ((y : ℕ) → 0 < y → y < length rule → parentOf rule y ≡ x → Across Child (edgeOf rule y) v (φ y))
-    → ((y : ℕ) → 0 < y → y < length rule → parentOf rule y ≡ x → Fits rule Child Meets y (φ y))
-    → Fits rule Child Meets x v
+      → ((y : ℕ) → 0 < y → y < length rule → parentOf rule y ≡ x → Across Child (edgeOf rule y) v (φ y))
+      → ((y : ℕ) → 0 < y → y < length rule → parentOf rule y ≡ x → Fits rule Child Meets y (φ y))
+      → Fits rule Child Meets x v
 
 -- At a run's own calls each node carries the set of the rule nodes whose tests its label meets.
 abbrev pub Tree : Type 0

@@ -58,22 +58,22 @@ pub data Opens (w : ℕ) : Words → Result ℕ Refusal → Words → Type 0 whe
   deep : {m : Words} → length (m .stack) ≡ 128 → Opens w m (Err TooDeep) m
   many : {m : Words} → length (m .stack) < 128 → m .opened ≡ 1000000 → Opens w m (Err TooMany) m
   fine : {m : Words} → length (m .stack) < 128 → m .opened < 1000000
-    → Opens w m (Ok (m .opened)) (record
+      → Opens w m (Ok (m .opened)) (record
       { stack = record { met = w; child = 0; below = 0; number = m .opened } ∷ m .stack; opened = m .opened + 1; waiting = m .waiting })
 
 pub data Closes (rule : List RuleNode) : Words → Result Bool Refusal → Words → Type 0 where
   none : {m : Words} → m .stack ≡ [] → Closes rule m (Err NothingOpen) m
   full : {m : Words} (l : Level) (ps : List Level) (w : ℕ) → m .stack ≡ l ∷ ps → Found rule l w → Has w 0 → length (m .waiting) ≡ 64
-    → Closes rule m (Err WaitingFull) m
+      → Closes rule m (Err WaitingFull) m
   selects : {m : Words} (l : Level) (ps : List Level) (w : ℕ) → m .stack ≡ l ∷ ps → Found rule l w → Has w 0 → length (m .waiting) < 64
-    → Closes rule m (Ok true) (record { stack = above w (l .below) ps; opened = m .opened; waiting = m .waiting ++ l .number ∷ [] })
+      → Closes rule m (Ok true) (record { stack = above w (l .below) ps; opened = m .opened; waiting = m .waiting ++ l .number ∷ [] })
   passes : {m : Words} (l : Level) (ps : List Level) (w : ℕ) → m .stack ≡ l ∷ ps → Found rule l w → (Has w 0 → ⊥)
-    → Closes rule m (Ok false) (record { stack = above w (l .below) ps; opened = m .opened; waiting = m .waiting })
+      → Closes rule m (Ok false) (record { stack = above w (l .below) ps; opened = m .opened; waiting = m .waiting })
 
 pub data Drops : Words → Result (Unit {0}) Refusal → Words → Type 0 where
   none : {m : Words} → m .stack ≡ [] → Drops m (Err NothingOpen) m
   drops : {m : Words} (l : Level) (ps : List Level) → m .stack ≡ l ∷ ps
-    → Drops m (Ok tt) (record { stack = ps; opened = m .opened; waiting = m .waiting })
+      → Drops m (Ok tt) (record { stack = ps; opened = m .opened; waiting = m .waiting })
 
 -- xs, ys: the caller's list before and after
 pub record Takes (m : Words) (xs : List ℕ) (n : ℕ) (ys : List ℕ) (m′ : Words) : Type 0 where

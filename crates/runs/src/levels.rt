@@ -3,7 +3,9 @@ ghost use Prim.Native.Nat.{_<_, _≤_};
 
 // The open nodes, the waiting numbers and the accepted openings that a run has at most.
 pub const DEPTH: usize = 128;
+
 pub const WAITING: usize = 64;
+
 pub const OPENINGS: u32 = 1_000_000;
 
 // An open node: the rule nodes whose test it meets, those found at a child of it so far and those found at a proper

@@ -19,8 +19,20 @@ impl Levels {
     pub fn new() -> Levels
         ensures { λ r. ⌜ words r ≡ no-words ⌝ }
     {
-        let none = Level { met: 0, child: 0, below: 0, number: 0 };
-        Levels { open: [none; 128], depth: 0, opened: 0, ring: [0; 64], head: 0, waiting: 0 }
+        let none = Level {
+            met: 0,
+            child: 0,
+            below: 0,
+            number: 0,
+        };
+        Levels {
+            open: [none; 128],
+            depth: 0,
+            opened: 0,
+            ring: [0; 64],
+            head: 0,
+            waiting: 0,
+        }
     }
 
     // A new innermost open node that meets the tests `met`.
@@ -36,7 +48,12 @@ impl Levels {
         if number >= OPENINGS {
             return Err(Refusal::TooMany);
         }
-        self.open[at] = Level { met, child: 0, below: 0, number };
+        self.open[at] = Level {
+            met,
+            child: 0,
+            below: 0,
+            number,
+        };
         self.depth = at + 1;
         self.opened = number + 1;
         Ok(number)

@@ -25,4 +25,5 @@ returns c =
     let G : List Level → Type 0 = λ st. Opens (c .args .met) (words s) (Ok (s .opened)) (record { stack = st; opened = s .opened + 1; waiting = queued (s .ring) (s .head) (s .waiting) }) in
     record {
       opens = subst G (sym (stacked-push (s .open) l (s .depth) lt)) (Opens.fine (omega (arith, length-stacked (s .open) (s .depth))) (omega arith));
-      kept = tt }
+      kept = tt;
+    }

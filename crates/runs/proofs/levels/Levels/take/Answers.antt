@@ -33,4 +33,5 @@ returns c =
     record {
       count = omega arith;
       list = c .loop-i .inv ∙ ap (λ (k : ℕ). take k q ++ drop k (c .args .out .now)) all;
-      after = ap G (queued-mod (s .ring) ((s .head + n) % 64) (s .head + n) (s .waiting - n) (omega arith) ∙ sym (drop-queued (s .ring) (s .head) (s .waiting) n few)) }
+      after = ap G (queued-mod (s .ring) ((s .head + n) % 64) (s .head + n) (s .waiting - n) (omega arith) ∙ sym (drop-queued (s .ring) (s .head) (s .waiting) n few));
+    }
