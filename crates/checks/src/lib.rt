@@ -1,0 +1,3 @@
+// Worked examples and the limits, as tests.
+#[cfg(test)]
+mod texts;
