@@ -1,11 +1,11 @@
 // Examples of rule texts, and every refusal at its limit.
+use labels::name::Name;
+use labels::naming::NameKind;
+use labels::naming::NameNameLabel;
 use rules::refusal::TextRefusal;
 use rules::refusal::TextRefusalDebug;
 use rules::refusal::TextRefusalPartialEq;
 use rules::rule::Rule;
-use labels::name::Name;
-use labels::naming::NameKind;
-use labels::naming::NameNameLabel;
 use std::test::*;
 
 // How many rule nodes the text gives.
@@ -75,13 +75,22 @@ fn tests() -> Result<(), Fail> {
 
 #[test]
 fn brackets() -> Result<(), Fail> {
-    check_eq(count(b"//a[a[a[a[a[a[a[a[a[a[a[a[a[a[a[a[a]]]]]]]]]]]]]]]]"), Ok(17))?;
-    check_eq(count(b"//a[a[a[a[a[a[a[a[a[a[a[a[a[a[a[a[a[a]]]]]]]]]]]]]]]]]"), Err(TextRefusal::DeepBracket(35)))
+    check_eq(
+        count(b"//a[a[a[a[a[a[a[a[a[a[a[a[a[a[a[a[a]]]]]]]]]]]]]]]]"),
+        Ok(17),
+    )?;
+    check_eq(
+        count(b"//a[a[a[a[a[a[a[a[a[a[a[a[a[a[a[a[a[a]]]]]]]]]]]]]]]]]"),
+        Err(TextRefusal::DeepBracket(35)),
+    )
 }
 
 #[test]
 fn short_list() -> Result<(), Fail> {
     let mut rule = Rule::new();
     let mut names = [Name::empty(); 63];
-    check_eq(rule.read_text(b"//a", &mut names), Err(TextRefusal::ShortList))
+    check_eq(
+        rule.read_text(b"//a", &mut names),
+        Err(TextRefusal::ShortList),
+    )
 }

@@ -19,7 +19,7 @@ use mathlib.Core.Logic.{_⊎_, inl, inr}
 use lib.ListN.{length, getD, take, drop}
 use Rattle.std.proofs.shelf.Lists.{length-append, length-push, take-at, drop-at, same-from-push, drop-drop, take-append-drop, take-rest, take-all, length-take-le, length-drop}
 use Rattle.labels.specs.declared.name.Name.{Name}
-use Rattle.labels.specs.Names.{fixed, bytes-of, written, word-of, name-of}
+use Rattle.labels.specs.Names.{fixed, bytes-of, written, word-of, name-of, Named}
 
 pub length-fixed : (n w : ℕ) → length (fixed n w) ≡ n
 length-fixed zero w = refl
@@ -281,7 +281,7 @@ name-bytes bs few h =
     subst Q (sym len) (cc)
 
 -- a name with these bytes is the name of them
-pub is-name-of : (bs : List ℕ) (n : Name) → ((i : ℕ) → getD bs i 0 < 256) → bytes-of n ≡ bs → n ≡ name-of bs
+is-name-of : (bs : List ℕ) (n : Name) → ((i : ℕ) → getD bs i 0 < 256) → bytes-of n ≡ bs → n ≡ name-of bs
 is-name-of bs n h e =
     let few : length bs ≤ name-limit = subst (λ (xs : List ℕ). length xs ≤ name-limit) e (let l = length-bytes n in let f = n .few in omega arith) in
     bytes-one n (name-of bs) (e ∙ sym (name-bytes bs few (every-place (λ b. b < 256) bs h)))
@@ -290,8 +290,11 @@ pub kept-short : (bs : List ℕ) → length bs ≤ name-limit → kept-name bs �
 kept-short bs few = cond-false (ltb name-limit (length bs)) [] bs (le-ltb name-limit (length bs) few)
 
 -- a name keeps the bytes that it was made from
-pub kept-all : (bs : List ℕ) (n : Name) → bytes-of n ≡ bs → bytes-of n ≡ kept-name bs
+kept-all : (bs : List ℕ) (n : Name) → bytes-of n ≡ bs → bytes-of n ≡ kept-name bs
 kept-all bs n e =
     let l = length-bytes n in
     let f = n .few in
     e ∙ sym (kept-short bs (subst (λ (xs : List ℕ). length xs ≤ name-limit) e (omega arith)))
+
+pub named : (bs : List ℕ) (n : Name) → ((i : ℕ) → getD bs i 0 < 256) → bytes-of n ≡ bs → Named bs n
+named bs n h e = record { bytes = e; name = is-name-of bs n h e; kept = kept-all bs n e }

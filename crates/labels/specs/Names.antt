@@ -5,7 +5,7 @@ use Prim.Native.Nat.{ℕ, zero, suc, _+_, _-_, _*_, _/_, _%_, _^_, _<_, _≤_, m
 use native.Mathlib.Nat.{mod-lt, min-le-left, pow-zero, pow-suc}
 use native.Mathlib.Omega.{arith}
 use lib.ListN.{length, take, drop}
-use Rattle.labels.specs.Spelling.{name-limit}
+use Rattle.labels.specs.Spelling.{name-limit, kept-name}
 use Rattle.labels.specs.declared.name.Name.{Name}
 use Rattle.labels.specs.declared.name.NameRefusal.{NameRefusal}
 use Rattle.labels.specs.declared.name.NameRefusal.the-variants.{TooLong}
@@ -58,6 +58,7 @@ name-of bs = cut-name (min name-limit (length bs)) (min-le-left name-limit (leng
 pub record Named (bs : List ℕ) (n : Name) : Type 0 where
   pub bytes : bytes-of n ≡ bs
   pub name : n ≡ name-of bs
+  pub kept : bytes-of n ≡ kept-name bs
 
 -- The number of the refusal
 abbrev pub number : NameRefusal → ℕ

@@ -65,11 +65,18 @@ impl Name {
     }
 }
 
+// Whether the two names have the same bytes.
+fn same_bytes(a: &Name, b: &Name) -> bool
+    ensures { λ r. ⌜ r ≡ sameBytes (bytes-of (now (a .entry))) (bytes-of (now (b .entry))) ⌝ }
+{
+    *a == *b
+}
+
 pub impl LabelKind for Name as NameKind {
     ghost same = { λ a b. sameBytes (bytes-of a) (bytes-of b) };
 
     fn equals(&self, other: &Name) -> bool {
-        *self == *other
+        same_bytes(self, other)
     }
 }
 

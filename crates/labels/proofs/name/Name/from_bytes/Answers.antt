@@ -5,7 +5,7 @@ use native.Mathlib.Omega.{arith}
 use lib.ListN.{length, take, drop}
 use Rattle.std.proofs.shelf.Lists.{length-take-le}
 use Rattle.labels.specs.Names.{fixed}
-use Rattle.labels.proofs.NameLaws.{fix-part, join-parts, length-cut, is-name-of}
+use Rattle.labels.proofs.NameLaws.{fix-part, join-parts, length-cut, named}
 use Rattle.labels.proofs.name.Name.from_bytes.Needs as need
 
 pub returns : need.returns
@@ -23,4 +23,4 @@ returns c =
     let e3 = fix-part (min 8 (length bs - 16)) (c .word-third .result) (take (k - j) (drop j bs)) (c .word-third .ensures .digits) (length-cut bs j (k - j) (omega arith) ∙ omega arith) in
     let e4 = fix-part (min 8 (length bs - 24)) (c .word-fourth .result) (take (length bs - k) (drop k bs)) (c .word-fourth .ensures .digits) (length-cut bs k (length bs - k) (omega arith) ∙ omega arith) in
     let all = join-parts bs i j k (omega arith) (omega arith) in
-    record { bytes = cc; name = is-name-of bs _ (λ i. let t = c .typed .bytes i in omega arith) (cc) }
+    named bs _ (λ i. let t = c .typed .bytes i in omega arith) (cc)
