@@ -5,13 +5,23 @@ ghost use Prim.Native.Nat.{_<_, _≤_, _^_, _-_, min};
 ghost use lib.ListN.{length};
 ghost use Rattle.std.specs.Results.{Cases};
 ghost use Rattle.std.specs.shelf.Text.{sameBytes};
-ghost use Rattle.labels.specs.Names.{fixed, bytes-of, Named, Refused};
+ghost use Rattle.labels.specs.Names.{fixed, bytes-of, Named, Refused, number};
 use crate::kind::LabelKind;
 use crate::kind::NameLabel;
 use crate::name::Name;
 use crate::name::NamePartialEq;
 use crate::name::NameRefusal;
 use crate::spelling::NAME_LIMIT;
+
+impl NameRefusal {
+    pub fn number(&self) -> u32
+        ensures { λ r. ⌜ r ≡ number (now (self .entry)) ⌝ }
+    {
+        match self {
+            NameRefusal::TooLong => 36,
+        }
+    }
+}
 
 // The number that at most eight bytes write in base 256.
 fn word(bytes: &[u8]) -> u64

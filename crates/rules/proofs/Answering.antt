@@ -12,7 +12,8 @@ use Rattle.rules.specs.declared.refusal.TextRefusal.the-variants.{ShortList, L
 use Rattle.rules.specs.Lexing.{Lexes}
 use Rattle.rules.specs.Grammar.{Text}
 use Rattle.rules.specs.Reading.{Accepted, Refused, Clear, Offends, Comes-before, same, allowed-first, tests-first}
-use Rattle.rules.specs.Answer.{number, place, Unfit, Gives, gives, IsRefused, unfit, refused}
+use Rattle.rules.specs.Refusals.{number, place}
+use Rattle.rules.specs.Answer.{Unfit, Gives, gives, IsRefused, unfit, refused}
 use Rattle.rules.proofs.Machine.{complete}
 use Rattle.rules.specs.Machine.{start, ended, to, Answer, accepts, refuses, lex, run}
 use Rattle.rules.specs.Readers.{told}

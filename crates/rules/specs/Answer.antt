@@ -7,29 +7,12 @@ use lib.ListN.{length, take}
 use Rattle.rules.specs.declared.syntax.Token.{Token}
 use Rattle.rules.specs.declared.syntax.ParsedNode.{ParsedNode}
 use Rattle.rules.specs.declared.refusal.TextRefusal.{TextRefusal}
-use Rattle.rules.specs.declared.refusal.TextRefusal.the-variants.{ShortList, Length, NotAllowed, LongName, ManyTests, DeepBracket}
+use Rattle.rules.specs.Refusals.{number, place}
 use Rattle.rules.specs.declared.reader.Parsed.{Parsed}
 use Rattle.std.specs.Vec.{Every}
 use Rattle.rules.specs.Readers.{Lies}
 use Rattle.rules.specs.Lexing.{Lexes}
 use Rattle.rules.specs.Reading.{Accepted, Refused}
-
--- the number of each refusal, and its place
-abbrev pub number : TextRefusal → ℕ
-number ShortList = 17
-number Length = 10
-number (NotAllowed p) = 11
-number (LongName p) = 12
-number (ManyTests p) = 13
-number (DeepBracket p) = 14
-
-abbrev pub place : TextRefusal → ℕ
-place ShortList = 0
-place Length = 0
-place (NotAllowed p) = p
-place (LongName p) = p
-place (ManyTests p) = p
-place (DeepBracket p) = p
 
 -- bs is no text of 1 to 1,024 bytes
 abbrev pub Unfit : List ℕ → Type 0

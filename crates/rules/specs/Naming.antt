@@ -11,7 +11,8 @@ use Rattle.rules.specs.declared.rule.Rule.{Rule}
 use Rattle.rules.specs.Nodes.{rule-nodes}
 use Rattle.rules.specs.XPath.{LocationPath}
 use Rattle.rules.specs.Expression.{rule-of, Stands-for, Selects-alike}
-use Rattle.rules.specs.Answer.{number, place, Gives, IsRefused}
+use Rattle.rules.specs.Refusals.{number, place}
+use Rattle.rules.specs.Answer.{Gives, IsRefused}
 
 -- the bytes of a rule node's test
 abbrev pub spelling : List ℕ → ParsedNode → List ℕ

@@ -1,3 +1,4 @@
+pub mod Refusals
 pub mod Bits
 pub mod Edges
 pub mod Words

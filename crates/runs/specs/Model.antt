@@ -89,13 +89,6 @@ pub data Does {A : Type 0} (rule : List RuleNode) (meets : A → ℕ → Type 0)
   drops : (v : ℕ) (vs : List ℕ) → m .path ≡ v ∷ vs → Does rule meets m call.Drop Dropped (dropping m v vs)
   takes : (n : ℕ) → Does rule meets m (call.Take n) (Taken (min (length (m .waiting)) n)) (taking m n)
 
--- The numbers of the refusals
-abbrev pub number : Refusal → ℕ
-number NothingOpen = 20
-number WaitingFull = 21
-number TooDeep = 22
-number TooMany = 23
-
 -- what the calls of a run answer, as an answer of the model
 abbrev pub opened : Result ℕ Refusal → Answer
 opened (Ok n) = Opened n

@@ -1,3 +1,4 @@
+pub mod Faults
 pub mod Events
 pub mod Nodes
 pub mod Table
