@@ -1,5 +1,6 @@
 // The calls of a run.
 ghost use mathlib.Core.Path.{_≡_};
+ghost use Prim.Native.Nat.{_≤_};
 ghost use lib.ListN.{length};
 ghost use Rattle.rules.specs.Embedding.{Meets};
 ghost use Rattle.rules.specs.Nodes.{rule-nodes};
@@ -49,6 +50,7 @@ impl<'r> Run<'r> {
     // Moves the oldest waiting numbers to the front of `out`, as many as wait and fit, and says how many.
     pub fn take(&mut self, out: &mut [u32]) -> usize
         ensures rule { λ r. ⌜ SameRule (now (self .entry)) (now (self .exit)) ⌝ }
+        ensures fits { λ r. ⌜ r ≤ length (now (out .entry)) ⌝ }
         ensures step { λ r. ⌜ ((m : Tree) → StandsFor (now (self .entry)) m → Taking m (now (out .entry)) r (now (out .exit)) (now (self .exit))) ⌝ }
     {
         self.state.take(out)

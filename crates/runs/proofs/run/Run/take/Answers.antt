@@ -1,5 +1,6 @@
 use mathlib.Core.Path.{refl}
 use mathlib.Core.Logic.{∥∥₁-map}
+use native.Mathlib.Omega.{arith}
 use lib.ListN.{length}
 use Rattle.rules.specs.Nodes.{rule-nodes}
 use Rattle.runs.specs.Words.{words}
@@ -28,6 +29,7 @@ returns c =
     let n = c .take .result in
     record {
       rule = refl;
+      fits = let count = c .take .ensures .count in omega arith;
       step = λ m h. record {
         does = take-does (rule-nodes rule) m s s′ xs ys n h (c .take .ensures);
         list = take-list (rule-nodes rule) m s s′ xs ys n h (c .take .ensures);

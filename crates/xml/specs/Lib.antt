@@ -1,0 +1,10 @@
+pub mod Faults
+pub mod Bytes
+pub mod Markup
+pub mod Shapes
+pub mod Reading
+pub mod Total
+pub mod Documents
+pub mod Laws
+pub mod Spans
+pub mod Means
