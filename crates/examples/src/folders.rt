@@ -30,9 +30,18 @@ fn drained(records: &[Record<FolderCode>]) -> (usize, Option<TableFault>) {
 fn show_depths(rt: &impl Print, depths: [u32; 3]) -> io::Result<()> {
     let label = FolderCode(7);
     let records = [
-        Record { depth: depths[0], label },
-        Record { depth: depths[1], label },
-        Record { depth: depths[2], label },
+        Record {
+            depth: depths[0],
+            label,
+        },
+        Record {
+            depth: depths[1],
+            label,
+        },
+        Record {
+            depth: depths[2],
+            label,
+        },
     ];
     let (count, fault) = drained(&records);
     match fault {
@@ -40,7 +49,10 @@ fn show_depths(rt: &impl Print, depths: [u32; 3]) -> io::Result<()> {
         Some(fault) => {
             let number = fault.number();
             let record = fault.record();
-            println!(rt, "depths {depths:?}: {count} events, refused {number}, record {record}")
+            println!(
+                rt,
+                "depths {depths:?}: {count} events, refused {number}, record {record}"
+            )
         }
     }
 }

@@ -13,7 +13,7 @@ use Rattle.xml.specs.Faults.{scan-number, scan-place}
 use Rattle.xml.specs.Markup.{markup, IsComment, IsInstruction, CommentFault, InstructionFault}
 use Rattle.xml.specs.Reading.{Found, Finds, FindsAt}
 use Rattle.xml.specs.Reading.Finds.{text, no-text, comment, comment-fault, instruction, instruction-fault, declaration, cut, stray}
-use Rattle.xml.specs.Means.{stop-markup, some, Goes-by, Refused}
+use Rattle.xml.specs.Inner.{stop-markup, some, Goes-by, Refused}
 use Rattle.xml.specs.declared.fault.Stop.{Stop}
 use Rattle.xml.specs.declared.fault.Markup.{Markup}
 use Rattle.xml.specs.declared.fault.Markup.the-variants.{Text, Comment, Declaration, Instruction, Cut, Stray}

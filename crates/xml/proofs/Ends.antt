@@ -2,16 +2,16 @@
 use mathlib.Core.Path.{_≡_, sym, subst}
 use mathlib.Core.List.{List}
 use mathlib.Core.Bool.{true, _||_}
-use Prim.Native.Nat.{ℕ, _<_}
+use Prim.Native.Nat.{ℕ}
 use native.Mathlib.Omega.{arith}
 use lib.Dec.{eqb}
 use lib.ListN.{length}
 use Rattle.labels.specs.Spelling.{byte, white, Longest}
 use Rattle.xml.specs.Bytes.{plain}
-use Rattle.xml.specs.Faults.{Told}
-use Rattle.xml.specs.Markup.{TagEnds, TagFault, EndFault, Bracketed, Unbracketed, Unclosed}
+use Rattle.xml.specs.Markup.{TagEnds, TagFault, EndFault}
 use Rattle.xml.specs.Markup.TagFault.{unclosed, opened}
 use Rattle.xml.specs.Markup.EndFault.{ended, byte-behind}
+use Rattle.xml.specs.Inner.{Told, Bracketed, Unbracketed, Unclosed}
 use Rattle.xml.specs.Shapes.{bracket-tag}
 use Rattle.xml.specs.declared.fault.ScanFault.{ScanFault}
 use Rattle.xml.specs.declared.fault.ScanFault.the-variants.{Byte, End, LongName}

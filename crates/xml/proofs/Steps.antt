@@ -23,7 +23,6 @@ use Rattle.xml.specs.Reading.Finds.{finish, end-tag}
 use lib.Dec.{ltb}
 use borrow.Author.Tests.{lt-ltb}
 use Rattle.xml.specs.declared.fault.Markup.{Markup}
-use Rattle.xml.specs.declared.fault.Markup.the-variants.{Nothing, Text, EndTag, Comment, Declaration, Instruction, StartTag, Cut, Stray}
 use Rattle.xml.specs.declared.reader.Xml.{Xml}
 use Rattle.xml.specs.Reading.Found.{finishes, opens, closes, refuses}
 use Rattle.xml.specs.Reading.Reads.{done, refused, skipped, opened, opened-empty, closed}
@@ -32,10 +31,10 @@ use Rattle.xml.specs.Spans.{no-span, span, spanned, Last-is, open-names}
 use Rattle.xml.specs.declared.reader.Span.{Span}
 use Rattle.std.specs.Orderings.{Decides}
 use Rattle.std.proofs.shelf.Tests.{cases-bool, both-ways}
-use Rattle.xml.specs.Means.{labelled, pending, begun-by, some, Passes, Hands, xml-names, xml-events, xml-ending, xml-meaning, xml-bytes, RootNamed, RootFails, Looks, Fails}
-use Rattle.xml.specs.declared.fault.LookFault.the-variants.{Listing}
+use Rattle.xml.specs.Means.{labelled, pending, begun-by, xml-names, xml-events, xml-ending, xml-meaning, xml-bytes, Looks, Fails}
+use Rattle.xml.specs.Inner.{some, Passes, Hands, RootNamed, RootFails}
 use denote.Ref.{now}
-use Rattle.xml.specs.Means.Passes.{here, on}
+use Rattle.xml.specs.Inner.Passes.{here, on}
 use Rattle.labels.specs.declared.name.Name.{Name}
 use Rattle.xml.specs.declared.fault.XmlFault.{XmlFault}
 use Rattle.xml.proofs.Once.{once}

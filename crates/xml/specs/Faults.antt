@@ -17,10 +17,6 @@ scan-place (Byte p) = p
 scan-place (End p) = p
 scan-place (LongName p) = p
 
--- so of a fault, by its number and place
-abbrev pub Told : (ℕ → ℕ → Type 0) → ScanFault → Type 0
-Told D f = D (scan-number f) (scan-place f)
-
 abbrev pub number : XmlFault → ℕ
 number (Scan f) = scan-number f
 number (WrongName p) = 33

@@ -8,3 +8,4 @@ pub mod Documents
 pub mod Laws
 pub mod Spans
 pub mod Means
+pub mod Inner

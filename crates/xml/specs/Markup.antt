@@ -7,8 +7,6 @@ use lib.Dec.{eqb}
 use lib.ListN.{length}
 use Rattle.labels.specs.Spelling.{byte, white, starts, Longest, Named, Spelled, name-limit}
 use Rattle.xml.specs.Bytes.{plain, apart, Stands}
-use Rattle.xml.specs.declared.fault.ScanFault.the-variants.{Byte, End, LongName}
-use Rattle.xml.specs.declared.fault.ScanFault.{ScanFault}
 use Rattle.xml.specs.declared.fault.Markup.{Markup}
 use Rattle.xml.specs.declared.fault.Markup.the-variants.{Nothing, Text, EndTag, Comment, Declaration, Instruction, StartTag, Cut, Stray}
 
@@ -106,20 +104,3 @@ pub data StartFault (xs : List ℕ) (b : ℕ) : ℕ → ℕ → Type 0 where
 pub data EndFault (xs : List ℕ) (n : ℕ) : ℕ → ℕ → Type 0 where
   ended : Longest (λ i. white (byte xs i)) (length xs) n (length xs) → EndFault xs n 31 (length xs)
   byte-behind : (c : ℕ) → Longest (λ i. white (byte xs i)) (length xs) n c → c < length xs → (byte xs c ≡ 62 → ⊥) → EndFault xs n 30 c
-
--- The first bracket from n on is a `>`, at c
-pub record Bracketed (xs : List ℕ) (n c : ℕ) : Type 0 where
-  pub rest : Longest (λ i. plain (byte xs i)) (length xs) n c
-  pub closes : byte xs c ≡ 62
-
--- or it is none
-abbrev pub Unbracketed : List ℕ → ℕ → ScanFault → Type 0
-Unbracketed xs n (Byte c) = Longest (λ i. plain (byte xs i)) (length xs) n c × (byte xs c ≡ 60)
-Unbracketed xs n (End c) = Longest (λ i. plain (byte xs i)) (length xs) n c × (c ≡ length xs)
-Unbracketed xs n (LongName c) = ⊥
-
--- no `>` ends the end tag
-abbrev pub Unclosed : List ℕ → ℕ → ScanFault → Type 0
-Unclosed xs n (Byte c) = Longest (λ i. white (byte xs i)) (length xs) n c × (c < length xs) × (byte xs c ≡ 62 → ⊥)
-Unclosed xs n (End c) = Longest (λ i. white (byte xs i)) (length xs) n c × (c ≡ length xs)
-Unclosed xs n (LongName c) = ⊥

@@ -7,9 +7,8 @@ ghost use lib.ListN.{length, getD, drop};
 ghost use Rattle.std.specs.Results.{Cases};
 ghost use Rattle.labels.specs.Spelling.{Longest};
 ghost use Rattle.xml.specs.Bytes.{apart};
-ghost use Rattle.xml.specs.Faults.{Told};
-ghost use Rattle.xml.specs.Markup.{markup, CommentEnds, IsComment, IsInstruction, CommentFault, InstructionFault};
-ghost use Rattle.xml.specs.Means.{stop-markup, Steps, Refused, Passes};
+ghost use Rattle.xml.specs.Markup.{markup, behind, CommentEnds, IsComment, IsInstruction, CommentFault, InstructionFault};
+ghost use Rattle.xml.specs.Inner.{Told, stop-markup, Steps, Refused, Passes};
 ghost use Rattle.xml.specs.declared.fault.Markup.the-variants.{Comment, Instruction};
 use crate::fault::Markup;
 use crate::fault::ScanFault;
@@ -19,25 +18,34 @@ use crate::fault::XmlFault;
 use labels::spelling::is_white;
 use labels::spelling::starts_name;
 
-// The next bytes tell which markup begins.
-fn which(rest: &[u8]) -> Markup
-    ensures { λ r. ⌜ r ≡ markup (now (rest .entry)) ⌝ }
+// Which markup `<` begins, by the bytes behind it.
+fn behind_bracket(rest: &[u8]) -> Markup
+    ensures { λ r. ⌜ r ≡ behind (now (rest .entry)) ⌝ }
 {
     match rest {
-        [] => Markup::Nothing,
-        [b'<', b'/', ..] => Markup::EndTag,
-        [b'<', b'!', b'-', b'-', ..] => Markup::Comment,
-        [b'<', b'!', ..] => Markup::Declaration,
-        [b'<', b'?', ..] => Markup::Instruction,
-        [b'<', b, ..] => {
+        [] => Markup::Cut,
+        [b'/', ..] => Markup::EndTag,
+        [b'!', b'-', b'-', ..] => Markup::Comment,
+        [b'!', ..] => Markup::Declaration,
+        [b'?', ..] => Markup::Instruction,
+        [b, ..] => {
             if starts_name(*b) {
                 Markup::StartTag
             } else {
                 Markup::Stray
             }
         }
-        [b'<'] => Markup::Cut,
-        _ => Markup::Text,
+    }
+}
+
+// The next bytes tell which markup begins.
+fn which(bytes: &[u8]) -> Markup
+    ensures { λ r. ⌜ r ≡ markup (now (bytes .entry)) ⌝ }
+{
+    match bytes {
+        [] => Markup::Nothing,
+        [b'<', rest @ ..] => behind_bracket(rest),
+        [_, ..] => Markup::Text,
     }
 }
 
@@ -99,7 +107,7 @@ fn instruction_end(input: &[u8], at: usize) -> Result<usize, ScanFault>
 }
 
 // One step of the way: past something to skip, or a stop.
-pub(crate) enum Step {
+enum Step {
     Past(usize),
     At(Stop),
 }

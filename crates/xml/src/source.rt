@@ -16,7 +16,8 @@ ghost use Rattle.xml.specs.Markup.{markup};
 ghost use Rattle.xml.specs.Reading.{Reads};
 ghost use Rattle.xml.specs.Documents.{Document, Document-from};
 ghost use Rattle.xml.specs.Spans.{Last-is};
-ghost use Rattle.xml.specs.Means.{xml-events, xml-ending, xml-bytes, begun-by, Hands, Comes, Opens, Closes};
+ghost use Rattle.xml.specs.Means.{xml-events, xml-ending, xml-bytes, begun-by};
+ghost use Rattle.xml.specs.Inner.{Hands, Comes, Opens, Closes};
 ghost use Rattle.xml.specs.declared.fault.Markup.the-variants.{Nothing, StartTag, EndTag};
 use crate::fault::ScanFault;
 use crate::fault::ScanXml;
@@ -53,7 +54,7 @@ fn same(a: &[u8], b: &[u8]) -> bool
 }
 
 impl<'a> Xml<'a> {
-    // A reader at the place, with nothing before it.
+    // A reader that starts at the place.
     fn at(input: &'a [u8], place: usize) -> Xml<'a>
         requires { ⌜ place ≤ length (now input) ⌝ }
         ensures fresh { λ r. ⌜ r .rooted ≡ false ⌝ }

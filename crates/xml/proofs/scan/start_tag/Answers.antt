@@ -1,9 +1,5 @@
-use native.Mathlib.Omega.{arith}
-use borrow.Author.Needs.{needs}
 use Rattle.std.proofs.shelf.Results.{err-from-errBy}
-use Rattle.xml.specs.Shapes.{reaches}
 use Rattle.xml.specs.Markup.StartFault.{in-name, in-rest}
-use Rattle.xml.specs.declared.fault.Markup.the-variants.{StartTag}
 use Rattle.xml.proofs.scan.start_tag.Needs as need
 
 pub returns-in-Break-name : need.returns-in-Break-name

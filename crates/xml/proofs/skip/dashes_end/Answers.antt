@@ -1,12 +1,10 @@
 use mathlib.Core.Path.{_≡_, refl, _∙_, ap}
 use Prim.Native.Nat.{_+_, _<_}
 use native.Mathlib.Omega.{arith}
-use borrow.Author.Needs.{needs}
 use lib.ListN.{length}
 use Rattle.labels.specs.Spelling.{byte}
 use Rattle.xml.specs.Markup.CommentFault.{ended, byte-behind}
-use Rattle.xml.specs.declared.fault.Markup.the-variants.{Comment}
-use Rattle.xml.specs.Shapes.{rest-byte, rest-length, reaches, pair-here}
+use Rattle.xml.specs.Shapes.{rest-byte, rest-length, pair-here}
 use borrow.Author.Tests.{ltb-true, ltb-false}
 use Rattle.xml.proofs.skip.dashes_end.Needs as need
 

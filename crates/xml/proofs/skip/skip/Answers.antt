@@ -1,6 +1,6 @@
 use mathlib.Core.Path.{subst}
-use Rattle.xml.specs.Means.{Steps}
-use Rattle.xml.specs.Means.Passes.{here, on}
+use Rattle.xml.specs.Inner.{Steps}
+use Rattle.xml.specs.Inner.Passes.{here, on}
 use Rattle.xml.proofs.skip.skip.Needs as need
 
 pub loop-next-holds : need.loop-next-holds
