@@ -1,22 +1,15 @@
--- The parts of the program's work.
-use mathlib.Core.Path.{_≡_}
+-- What the program says of an input, as far as the size of the input and the rule text settle it.
 use mathlib.Core.List.{List}
 use Prim.Native.Nat.{ℕ, _<_, _≤_}
-use lib.ListN.{length, getD}
-use Rattle.std.specs.declared.option.Option.{Option}
-use Rattle.std.specs.declared.option.Option.the-variants.{Some, None}
-use Rattle.std.specs.declared.result.Result.{Result}
-use Rattle.std.specs.declared.result.Result.the-variants.{Ok, Err}
-use Rattle.sources.specs.declared.event.Event.{Event}
+use lib.ListN.{length, take}
+use Rattle.rules.specs.declared.syntax.ParsedNode.{ParsedNode}
+use Rattle.rules.specs.Answer.{Gives, IsRefused}
+use Rattle.birdelectrum.specs.declared.report.Report.{Report}
+use Rattle.birdelectrum.specs.declared.report.Verdict.the-variants.{Refused}
+use Rattle.birdelectrum.specs.Parts.{Splits}
 
--- the first line of bs ends at n: at its first byte 10, or at its end
-pub record Splits (bs : List ℕ) (n : ℕ) : Type 0 where
-  pub within : n ≤ length bs
-  pub first : (i : ℕ) → i < n → getD bs i 0 ≡ 10 → ⊥
-  pub here : n < length bs → getD bs n 0 ≡ 10
-
--- an event was fed, and no more numbers taken than fit
-abbrev pub Moves : {L F : Type 0} → List (Event L) → ℕ → Result (Option ℕ) F → Type 0
-Moves es room (Ok (Some n)) = (0 < length es) × (n ≤ room)
-Moves es room (Ok None) = Unit {0}
-Moves es room (Err f) = Unit {0}
+-- An input that is too long, and a rule text that is refused, are reported alone.
+pub data Reports (bs : List ℕ) : Report → Type 0 where
+  too-long : 65536 < length bs → Reports bs (record { reported = 0; verdict = Refused 50 65536 })
+  refused-rule : (n k p : ℕ) → length bs ≤ 65536 → Splits bs n → IsRefused (take n bs) k p → Reports bs (record { reported = 0; verdict = Refused k p })
+  listed : (n : ℕ) (ns : List ParsedNode) (r : Report) → length bs ≤ 65536 → Splits bs n → Gives (take n bs) ns → Reports bs r

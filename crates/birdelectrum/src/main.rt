@@ -1,5 +1,7 @@
 // Reports the folders of a listing at which a rule occurs.
 mod report;
+#[cfg(test)]
+mod tests;
 
 use report::INPUT;
 use report::Report;

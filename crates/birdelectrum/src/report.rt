@@ -6,7 +6,8 @@ ghost use Rattle.std.specs.Results.{Cases};
 ghost use Rattle.sources.specs.Events.{rest};
 ghost use Rattle.xml.specs.Means.{xml-events};
 ghost use Rattle.birdelectrum.specs.declared.report.Stop.{Stop};
-ghost use Rattle.birdelectrum.specs.Reports.{Splits, Moves};
+ghost use Rattle.birdelectrum.specs.Parts.{Splits, Moves};
+ghost use Rattle.birdelectrum.specs.Reports.{Reports};
 use labels::name::Name;
 use labels::naming::NameKind;
 use labels::naming::NameNameLabel;
@@ -23,14 +24,14 @@ use xml::source::XmlSource;
 pub const INPUT: usize = 65_536;
 
 // How the last line goes.
-#[derive(Clone, Copy)]
+#[derive(Clone, Copy, PartialEq, Eq, Debug)]
 pub enum Verdict {
     Selected,
     Refused { number: u32, place: usize },
 }
 
 // How many numbers are reported, and the verdict.
-#[derive(Clone, Copy)]
+#[derive(Clone, Copy, PartialEq, Eq, Debug)]
 pub struct Report {
     pub reported: usize,
     pub verdict: Verdict,
@@ -140,7 +141,8 @@ fn feed(rule: &Rule, names: &[Name], listing: &[u8], numbers: &mut [u32]) -> Rep
 
 // The numbers to report stand at the front of the list.
 pub fn report_on(input: &[u8], numbers: &mut [u32]) -> Report
-    ensures { λ r. ⌜ r .reported ≤ length (now (numbers .entry)) ⌝ }
+    ensures fits { λ r. ⌜ r .reported ≤ length (now (numbers .entry)) ⌝ }
+    ensures reports { λ r. ⌜ Reports (now (input .entry)) r ⌝ }
 {
     if input.len() > INPUT {
         return Report {

@@ -1,4 +1,5 @@
 // Folder tables, and a run with more selected nodes than can wait.
+use crate::drain::drained;
 use labels::code::FolderCode;
 use labels::code::FolderCodeKind;
 use rules::rule::Rule;
@@ -6,26 +7,8 @@ use runs::refusal::RefusalDebug;
 use runs::run::Run;
 use sources::record::FolderTable;
 use sources::record::Record;
-use sources::record::TableFault;
-use sources::source::Source;
 use sources::table::TableSource;
 use std::io;
-
-// More events than an example has.
-const EVENTS: usize = 1000;
-
-// How many events the table has, and its fault, if any.
-fn drained(records: &[Record<FolderCode>]) -> (usize, Option<TableFault>) {
-    let mut source = FolderTable::new(records);
-    for count in 0..EVENTS {
-        match source.next() {
-            Ok(Some(_)) => {}
-            Ok(None) => return (count, None),
-            Err(fault) => return (count, Some(fault)),
-        }
-    }
-    (EVENTS, None)
-}
 
 fn show_depths(rt: &impl Print, depths: [u32; 3]) -> io::Result<()> {
     let label = FolderCode(7);
@@ -43,7 +26,8 @@ fn show_depths(rt: &impl Print, depths: [u32; 3]) -> io::Result<()> {
             label,
         },
     ];
-    let (count, fault) = drained(&records);
+    let mut source = FolderTable::new(&records);
+    let (count, fault) = drained(&mut source);
     match fault {
         None => println!(rt, "depths {depths:?}: {count} events"),
         Some(fault) => {

@@ -1,28 +1,12 @@
 // XML listings.
-use sources::source::Source;
+use crate::drain::drained;
 use std::io;
-use xml::fault::XmlFault;
 use xml::reader::Xml;
 use xml::source::XmlSource;
 
-// More events than an example has.
-const EVENTS: usize = 1000;
-
-// How many events the listing has, and its fault, if any.
-fn drained(listing: &[u8]) -> (usize, Option<XmlFault>) {
-    let mut source = Xml::new(listing);
-    for count in 0..EVENTS {
-        match source.next() {
-            Ok(Some(_)) => {}
-            Ok(None) => return (count, None),
-            Err(fault) => return (count, Some(fault)),
-        }
-    }
-    (EVENTS, None)
-}
-
 fn show_listing(rt: &impl Print, listing: &str) -> io::Result<()> {
-    let (count, fault) = drained(listing.as_bytes());
+    let mut source = Xml::new(listing.as_bytes());
+    let (count, fault) = drained(&mut source);
     match fault {
         None => println!(rt, "{listing}: {count} events"),
         Some(fault) => {

@@ -1,4 +1,5 @@
 // Runs worked examples over the library, and prints what comes of each.
+mod drain;
 mod folders;
 mod listings;
 mod texts;

@@ -19,7 +19,7 @@ use mathlib.Core.Logic.{_⊎_, inl, inr}
 use lib.ListN.{length, getD, take, drop}
 use Rattle.std.proofs.shelf.Lists.{length-append, length-push, take-at, drop-at, same-from-push, drop-drop, take-append-drop, take-rest, take-all, length-take-le, length-drop}
 use Rattle.labels.specs.declared.name.Name.{Name}
-use Rattle.labels.specs.Names.{fixed, bytes-of, written, word-of, name-of, Named}
+use Rattle.labels.specs.Names.{fixed, bytes-of, written, word-of, name-of, MadeFrom}
 
 pub length-fixed : (n w : ℕ) → length (fixed n w) ≡ n
 length-fixed zero w = refl
@@ -296,5 +296,5 @@ kept-all bs n e =
     let f = n .few in
     e ∙ sym (kept-short bs (subst (λ (xs : List ℕ). length xs ≤ name-limit) e (omega arith)))
 
-pub named : (bs : List ℕ) (n : Name) → ((i : ℕ) → getD bs i 0 < 256) → bytes-of n ≡ bs → Named bs n
+pub named : (bs : List ℕ) (n : Name) → ((i : ℕ) → getD bs i 0 < 256) → bytes-of n ≡ bs → MadeFrom bs n
 named bs n h e = record { bytes = e; name = is-name-of bs n h e; kept = kept-all bs n e }

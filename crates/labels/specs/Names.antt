@@ -55,7 +55,7 @@ unfoldable pub name-of : List ℕ → Name
 name-of bs = cut-name (min name-limit (length bs)) (min-le-left name-limit (length bs)) bs
 
 -- the name made from the bytes: reading its bytes gives them back
-pub record Named (bs : List ℕ) (n : Name) : Type 0 where
+pub record MadeFrom (bs : List ℕ) (n : Name) : Type 0 where
   pub bytes : bytes-of n ≡ bs
   pub name : n ≡ name-of bs
   pub kept : bytes-of n ≡ kept-name bs

@@ -5,7 +5,7 @@ ghost use Prim.Native.Nat.{_<_, _≤_, _^_, _-_, min};
 ghost use lib.ListN.{length};
 ghost use Rattle.std.specs.Results.{Cases};
 ghost use Rattle.std.specs.shelf.Text.{sameBytes};
-ghost use Rattle.labels.specs.Names.{fixed, bytes-of, Named, Refused, number};
+ghost use Rattle.labels.specs.Names.{fixed, bytes-of, MadeFrom, Refused, number};
 use crate::kind::LabelKind;
 use crate::kind::NameLabel;
 use crate::name::Name;
@@ -52,7 +52,7 @@ impl Name {
 
     // The name of these bytes, unless they are too many.
     pub fn from_bytes(bytes: &[u8]) -> Result<Name, NameRefusal>
-        ensures { λ r. ⌜ Cases r (Named (now (bytes .entry))) (Refused (now (bytes .entry))) ⌝ }
+        ensures { λ r. ⌜ Cases r (MadeFrom (now (bytes .entry))) (Refused (now (bytes .entry))) ⌝ }
     {
         let len = bytes.len();
         if len > NAME_LIMIT {

@@ -108,14 +108,14 @@ below-last {C = C} (deeper {u = u} {w = w} h t) =
 
 ------------------------------------------------------------------------
 -- φ with n moved to c
-put : (ℕ → ℕ) → ℕ → ℕ → ℕ → ℕ
+pub put : (ℕ → ℕ) → ℕ → ℕ → ℕ → ℕ
 put φ n c k = cond (eqb k n) c (φ k)
 
-put-here : (φ : ℕ → ℕ) (n c : ℕ) → put φ n c n ≡ c
+pub put-here : (φ : ℕ → ℕ) (n c : ℕ) → put φ n c n ≡ c
 unfolding put
 put-here φ n c = cond-true (eqb n n) c (φ n) (eq-eqb n n refl)
 
-put-else : (φ : ℕ → ℕ) (n c k : ℕ) → k < n → put φ n c k ≡ φ k
+pub put-else : (φ : ℕ → ℕ) (n c k : ℕ) → k < n → put φ n c k ≡ φ k
 unfolding put
 put-else φ n c k h = cond-false (eqb k n) c (φ k) (ne-eqb k n (λ e. omega arith))
 

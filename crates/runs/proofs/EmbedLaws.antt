@@ -1,16 +1,15 @@
 -- A rule occurs at v just where its part from rule node 0 down fits.
 use mathlib.Core.Path.{_≡_, refl, sym, ap, subst, _∙_}
-use mathlib.Core.Bool.{cond}
 use mathlib.Core.Logic.{_⊎_, inl, inr, ⊎-elim}
 use Prim.Native.Nat.{ℕ, zero, suc, _<_, _≤_, _+_, _-_}
 use native.Mathlib.Omega.{arith}
-use lib.Dec.{eqb}
-use Rattle.std.proofs.shelf.Tests.{cases-lt, cases-order, eq-eqb, ne-eqb, cond-true, cond-false}
+use Rattle.std.proofs.shelf.Tests.{cases-lt}
 use mathlib.Core.List.{List}
 use lib.ListN.{length}
 use Rattle.rules.specs.declared.node.RuleNode.{RuleNode}
 use Rattle.rules.specs.Rule.{parentOf, edgeOf, Ordered}
 use Rattle.rules.specs.Embedding.{Across, Embedding}
+use Rattle.rules.proofs.Selects.{put, put-here, put-else}
 use Rattle.runs.specs.Stands.{Fits}
 
 module _ (rule : List RuleNode) (ordered : Ordered rule) (some : 0 < length rule) (C M : ℕ → ℕ → Type 0) (v : ℕ) where
@@ -30,18 +29,6 @@ module _ (rule : List RuleNode) (ordered : Ordered rule) (some : 0 < length rule
       let P : ℕ → Type 0 = λ z. Fits rule C M 0 z in
       subst P (e .root) (fits-down φ e (length rule) 0 (omega arith) some)
 
-  -- φ changed at n
-  put : (ℕ → ℕ) → ℕ → ℕ → ℕ → ℕ
-  put φ n c x = cond (eqb x n) c (φ x)
-
-  put-same : (φ : ℕ → ℕ) (n c : ℕ) → put φ n c n ≡ c
-  unfolding put
-  put-same φ n c = cond-true (eqb n n) c (φ n) (eq-eqb n n refl)
-
-  put-other : (φ : ℕ → ℕ) (n c x : ℕ) → x < n → put φ n c x ≡ φ x
-  unfolding put
-  put-other φ n c x l = cond-false (eqb x n) c (φ x) (ne-eqb x n (λ e. omega arith))
-
   -- a mapping of the rule nodes below n
   pub record Mapped-below (n : ℕ) (φ : ℕ → ℕ) : Type 0 where
     pub root : φ 0 ≡ v
@@ -59,24 +46,24 @@ module _ (rule : List RuleNode) (ordered : Ordered rule) (some : 0 < length rule
       let c = r .0 in (
         put φ n c,
         record {
-          root = put-other φ n c 0 a ∙ h .root;
+          root = put-else φ n c 0 a ∙ h .root;
           parts = λ x l. ⊎-elim
-              (λ k. let P : ℕ → Type 0 = λ z. Fits rule C M x z in subst P (sym (put-other φ n c x k)) (h .parts x k))
+              (λ k. let P : ℕ → Type 0 = λ z. Fits rule C M x z in subst P (sym (put-else φ n c x k)) (h .parts x k))
               (λ k. let e : n ≡ x = omega arith in
               let P : ℕ → Type 0 = λ z. Fits rule C M z (put φ n c z) in
               let Q : ℕ → Type 0 = λ z. Fits rule C M n z in
-              subst P e (subst Q (sym (put-same φ n c)) (r .2)))
+              subst P e (subst Q (sym (put-here φ n c)) (r .2)))
               (cases-lt x n);
           edges = λ x p l. ⊎-elim
               (λ k. let q : parentOf rule x < n = let w : parentOf rule x < x = ordered x p (omega arith) in omega arith in
               let P : ℕ → Type 0 = λ z. Across C (edgeOf rule x) z (put φ n c x) in
               let Q : ℕ → Type 0 = λ z. Across C (edgeOf rule x) (φ (up x)) z in
-              subst P (sym (put-other φ n c (up x) q)) (subst Q (sym (put-other φ n c x k)) (h .edges x p k)))
+              subst P (sym (put-else φ n c (up x) q)) (subst Q (sym (put-else φ n c x k)) (h .edges x p k)))
               (λ k. let e : n ≡ x = omega arith in
               let R : ℕ → Type 0 = λ z. Across C (edgeOf rule z) (put φ n c (up z)) (put φ n c z) in
               let P : ℕ → Type 0 = λ z. Across C (edgeOf rule n) z (put φ n c n) in
               let Q : ℕ → Type 0 = λ z. Across C (edgeOf rule n) (φ (up n)) z in
-              subst R e (subst P (sym (put-other φ n c (up n) o)) (subst Q (sym (put-same φ n c)) (r .1))))
+              subst R e (subst P (sym (put-else φ n c (up n) o)) (subst Q (sym (put-here φ n c)) (r .1))))
               (cases-lt x n);
         },
       )
