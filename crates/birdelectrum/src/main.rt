@@ -1,4 +1,6 @@
 // Reports the folders of a listing at which a rule occurs.
+#![tactic(auto)]
+
 mod report;
 #[cfg(test)]
 mod tests;

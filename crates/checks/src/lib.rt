@@ -1,4 +1,6 @@
 // Worked examples and the limits, as tests.
+#![tactic(auto)]
+
 #[cfg(test)]
 mod listings;
 #[cfg(test)]

@@ -1,4 +1,6 @@
 // Runs worked examples over the library, and prints what comes of each.
+#![tactic(auto)]
+
 mod drain;
 mod folders;
 mod listings;

@@ -1,5 +1,5 @@
 -- Why a name has no end.
-use Rattle.std.specs.Prelude.{◌≡◌, ℕ, ◌+◌, ◌<◌, true, List, length, ◌≢◌}
+use Rattle.std.specs.Prelude.{ℕ, ◌+◌, ◌<◌, true, List, length, ◌≢◌}
 use Rattle.labels.specs.Spelling.{byte, starts, Named, name_limit}
 use Rattle.labels.specs.declared.spelling.NoName.{NoName}
 use Rattle.labels.specs.declared.spelling.NoName.TheVariants.{Missing, TooLong}

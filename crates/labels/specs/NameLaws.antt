@@ -1,5 +1,5 @@
 -- The bytes of a name.
-use Rattle.std.specs.Prelude.{◌≡◌, ℕ, zero, suc, ◌+◌, ◌-◌, ◌*◌, ◌/◌, ◌%◌, ◌^◌, ◌<◌, ◌≤◌, min, Bool, true, false, cond, ◌⊎◌, List, [], ◌∷◌, ◌++◌, length, take, drop, Decides, nat_lt, slice_index, slice_range, refl}
+use Rattle.std.specs.Prelude.{◌≡◌, ℕ, zero, suc, ◌+◌, ◌-◌, ◌*◌, ◌/◌, ◌%◌, ◌^◌, ◌<◌, ◌≤◌, min, Bool, true, false, ◌==◌, ◌&&◌, ◌⊎◌, List, [], ◌∷◌, ◌++◌, length, take, drop, nat_lt, slice_index, slice_range, refl}
 use Rattle.std.proofs.Common.{sym, ap, ap₂, subst, ◌∙◌, append-nil, append_assoc, le-ltb, arith, pow-suc, mod-eq_of_lt, inl, inr}
 use mathlib.Core.HLevel.{is_prop→PathP}
 use Rattle.std.proofs.Math.Bridge.{le_prop}
@@ -7,7 +7,7 @@ use Rattle.std.specs.List.{AllByRecursion}
 use Rattle.labels.specs.Spelling.{name_limit, kept_name}
 use Rattle.std.specs.Str.{bytes_eq}
 use Rattle.std.proofs.lemmas.Slice.Eq.{bytes_eq-Decides}
-use Rattle.std.proofs.lemmas.Bool.{false≢true, cases_lt, cond-false}
+use Rattle.std.proofs.lemmas.Bool.{false≢true, cases_lt, cond-false, and_parts, eq-eqb, eqb-true}
 use Rattle.std.proofs.Math.Nat.{pow-zero, pow-le-pow_right}
 use Rattle.std.proofs.lemmas.List.{length-append, length_push, take_at, drop_at, same_from_push, drop-drop, take-append-drop, take_rest, take_all, length-take-le, length-drop}
 use Rattle.labels.specs.declared.name.Name.{Name}
@@ -146,25 +146,24 @@ other_told x y d = go (bytes_eq (bytes_of x) (bytes_of y)) refl
     go true e = absurd (d (same_words x y ((bytes_eq-Decides (bytes_of x) (bytes_of y)).0 (sym e))))
     go false e = e
 
--- what the derived comparison says of two numbers
-abbrev pub Alike : Bool → ℕ → ℕ → Type 0
-Alike r m n = Decides r (m ≡ n)
+-- the derived comparison, word by word
+abbrev words_eq : Name → Name → Bool
+words_eq x y = (x.len == y.len) && ((x.first == y.first) && ((x.second == y.second) && ((x.third == y.third) && (x.fourth == y.fourth))))
 
-abbrev Unlike : ℕ → ℕ → Type 0
-Unlike m n = Alike false m n → ⊥
+all_equal : (x y : Name) → Same x y → words_eq x y ≡ true
+all_equal x y s = rw (eq-eqb _ _ s.len, eq-eqb _ _ s.first, eq-eqb _ _ s.second, eq-eqb _ _ s.third, eq-eqb _ _ s.fourth) refl
 
-unlike : (m n : ℕ) → m ≡ n → Unlike m n
-unlike m n e d = false≢true (d.1 e)
+each_equal : (x y : Name) → words_eq x y ≡ true → Same x y
+each_equal x y e =
+    let p = and_parts _ _ e in
+    let q = and_parts _ _ p.1 in
+    let r = and_parts _ _ q.1 in
+    let s = and_parts _ _ r.1 in
+    record { len = eqb-true _ _ p.0; first = eqb-true _ _ q.0; second = eqb-true _ _ r.0; third = eqb-true _ _ s.0; fourth = eqb-true _ _ s.1 }
 
-pub words_told : (x y : Name) (r : Bool)
-    → cond r
-    (Alike true x.len y.len × (Alike true x.first y.first × (Alike true x.second y.second × (Alike true x.third y.third × Alike true x.fourth y.fourth))))
-    (Unlike x.len y.len → Unlike x.first y.first → Unlike x.second y.second → Unlike x.third y.third → Unlike x.fourth y.fourth → ⊥)
-    → r ≡ bytes_eq (bytes_of x) (bytes_of y)
-words_told x y true h =
-    same_told x y (record { len = h.0.0 refl; first = h.1.0.0 refl; second = h.1.1.0.0 refl; third = h.1.1.1.0.0 refl; fourth = h.1.1.1.1.0 refl })
-words_told x y false h =
-    other_told x y (λ s. h (unlike _ _ s.len) (unlike _ _ s.first) (unlike _ _ s.second) (unlike _ _ s.third) (unlike _ _ s.fourth))
+pub words_told : (x y : Name) (r : Bool) → r ≡ words_eq x y → r ≡ bytes_eq (bytes_of x) (bytes_of y)
+words_told x y true h = same_told x y (each_equal x y (sym h))
+words_told x y false h = other_told x y (λ s. false≢true (h ∙ all_equal x y s))
 
 -- equality of bytes
 pub same_self : (bs : List ℕ) → bytes_eq bs bs ≡ true

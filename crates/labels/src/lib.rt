@@ -1,3 +1,5 @@
+#![tactic(auto)]
+
 pub mod code;
 pub mod kind;
 pub mod laws;

@@ -1,3 +1,5 @@
+#![tactic(auto)]
+
 pub mod laws;
 mod lexer;
 pub mod node;

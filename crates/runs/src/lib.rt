@@ -1,3 +1,5 @@
+#![tactic(auto)]
+
 pub mod bits;
 pub mod call;
 mod calls;

@@ -1,3 +1,5 @@
+#![tactic(auto)]
+
 pub mod event;
 pub mod record;
 pub mod source;

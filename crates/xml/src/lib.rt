@@ -1,3 +1,5 @@
+#![tactic(auto)]
+
 pub mod fault;
 pub mod laws;
 mod look;

@@ -1,20 +1,20 @@
-use Rattle.std.proofs.Common.{◌≡◌, ℕ, ◌+◌, ◌^◌, ◌<◌, ◌≤◌, List, [], ◌∷◌, ◌++◌, length, get_or, take, sym, ap, ◌∙◌, subst, arith}
+use Rattle.std.proofs.Common.{◌≡◌, ℕ, ◌^◌, ◌<◌, ◌≤◌, List, [], ◌∷◌, ◌++◌, length, get_or, take, sym, ap, ◌∙◌, subst, arith}
 use Rattle.std.proofs.lemmas.List.{take_more, take_all}
 use Rattle.labels.specs.Names.{fixed}
 use Rattle.labels.specs.NameLaws.{small, fixed_more, bound_more}
 use Rattle.labels.proofs.naming.word.Goals as goal
 
-pub overflow-mul-w : goal.overflow-mul-w
-overflow-mul-w c =
+pub overflow_mul-w : goal.overflow_mul-w
+overflow_mul-w c =
     let l : c.loop-b.b-index ≤ 7 = omega arith in
     let h : c.loop-b.w < 256 ^ 7 = small c.loop-b.b-index c.loop-b.w l c.loop-b.invariant.1 in
     omega arith
 
-pub overflow-add-w : goal.overflow-add-w
-overflow-add-w c =
+pub overflow_add-w : goal.overflow_add-w
+overflow_add-w c =
     let l : c.loop-b.b-index ≤ 7 = omega arith in
     let h : c.loop-b.w < 256 ^ 7 = small c.loop-b.b-index c.loop-b.w l c.loop-b.invariant.1 in
-    let b : get_or c.args.bytes.now c.loop-b.b-index 0 < 256 = omega (arith, c.type-inv.bytes c.loop-b.b-index) in
+    let b : get_or c.args.bytes.now c.loop-b.b-index 0 < 256 = omega (arith, c.type_inv.bytes c.loop-b.b-index) in
     omega (arith, c.from.ensures)
 
 pub loop-b-preserved : goal.loop-b-preserved
@@ -22,7 +22,7 @@ loop-b-preserved c =
     let i = c.loop-b.b-index in
     let bs = c.args.bytes.now in
     let w = c.loop-b.w in
-    let b : get_or c.args.bytes.now c.loop-b.b-index 0 < 256 = omega (arith, c.type-inv.bytes c.loop-b.b-index) in
+    let b : get_or c.args.bytes.now c.loop-b.b-index 0 < 256 = omega (arith, c.type_inv.bytes c.loop-b.b-index) in
     let r : c.from.result < 256 = omega (arith, c.from.ensures) in (
       fixed_more i w c.from.result r
           ∙ ap (λ (xs : List ℕ). xs ++ c.from.result ∷ []) c.loop-b.invariant.0
