@@ -5,14 +5,14 @@ use Rattle.std.proofs.lemmas.Result.{err_from_is_err_and}
 use Rattle.rules.proofs.Answering.{fit, turns_away, accepting}
 use Rattle.rules.proofs.reader.parse_sized.Goals as goal
 
-pub returns-in-err-whole : goal.returns-in-err-whole
-returns-in-err-whole c =
-    let p = err_from_is_err_and c.from-residual.result c.from-residual.ensures.1 in
-    rw (p.1, p.2) (turns_away c.args.text.now _ (fit _ c.requires.some c.requires.few) c.in-err-whole.ensures)
+pub returns-in_err-whole : goal.returns-in_err-whole
+returns-in_err-whole c =
+    let p = err_from_is_err_and c.from_residual.result c.from_residual.ensures.1 in
+    rw (p.1, p.2) (turns_away c.args.text.now _ (fit _ c.requires.some c.requires.few) c.in_err-whole.ensures)
 
 pub returns : goal.returns
 returns c =
-    let all = c.in-ok-whole.ensures in
+    let all = c.in_ok-whole.ensures in
     record {
       reads = accepting c.args.text.now _ (fit _ c.requires.some c.requires.few) all.leads;
       few = all.kept.sound.few;

@@ -9,5 +9,5 @@ returns-in-0 c = subst (λ (b : ℕ). AnyByte b _) (sym c.in-0.is) named
 pub returns-in-1 : goal.returns-in-1
 returns-in-1 c = subst (λ (b : ℕ). AnyByte b _) (sym c.in-1.is) any
 
-pub returns-in-default : goal.returns-in-default
-returns-in-default c = no_any c.args.byte (search rules) (search rules)
+pub returns-in_default : goal.returns-in_default
+returns-in_default c = no_any c.args.byte (search rules) (search rules)

@@ -10,7 +10,7 @@ returns-then-bytes-ne0 c = unset_sole (size (λ k w. let a = w.long in let b = w
 
 pub returns-in-None : goal.returns-in-None
 returns-in-None c =
-    let all = whole c.args.bytes.now c.if-bytes-ne0.false c.if-len-eq0.false c.if-len-gt-RULE-NODES.false in
+    let all = whole c.args.bytes.now c.if-bytes-ne0.false c.if-len-eq0.false c.if-len-gt-RULE_NODES.false in
     unset_sole (bad all c.loop-i-test.true (λ j l. (get_or c.loop-i.nodes j blank, c.loop-i.invariant.1 j l)) c.in-None.ensures)
 
 pub loop-i-preserved : goal.loop-i-preserved
@@ -20,13 +20,13 @@ loop-i-preserved c =
       record_more c.args.bytes.now c.loop-i.nodes c.loop-i.i c.in-Some.node (omega arith) c.in-Some.ensures c.loop-i.invariant.1,
     )
 
-pub invariant-of-result : goal.invariant-of-result
-invariant-of-result c =
-    let all = whole c.args.bytes.now c.if-bytes-ne0.false c.if-len-eq0.false c.if-len-gt-RULE-NODES.false in
+pub invariant_of-result : goal.invariant_of-result
+invariant_of-result c =
+    let all = whole c.args.bytes.now c.if-bytes-ne0.false c.if-len-eq0.false c.if-len-gt-RULE_NODES.false in
     let r = all_recorded c.args.bytes.now c.loop-i.nodes c.loop-i.i all c.loop-i.invariant.0 c.loop-i-test.false c.loop-i.invariant.1 in
-    (r.whole.some, (c.if-len-gt-RULE-NODES.false, (recorded_rooted r, (recorded_ordered r, tt))))
+    (r.whole.some, (c.if-len-gt-RULE_NODES.false, (recorded_rooted r, (recorded_ordered r, tt))))
 
 pub returns : goal.returns
 returns c =
-    let all = whole c.args.bytes.now c.if-bytes-ne0.false c.if-len-eq0.false c.if-len-gt-RULE-NODES.false in
+    let all = whole c.args.bytes.now c.if-bytes-ne0.false c.if-len-eq0.false c.if-len-gt-RULE_NODES.false in
     set_sole (all_recorded c.args.bytes.now c.loop-i.nodes c.loop-i.i all c.loop-i.invariant.0 c.loop-i-test.false c.loop-i.invariant.1)

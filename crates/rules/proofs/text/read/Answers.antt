@@ -15,13 +15,13 @@ use Rattle.rules.proofs.Answering.{read_sole, unread_sole}
 use Rattle.rules.proofs.Listed.{texts_select}
 use Rattle.rules.proofs.text.read.Goals as goal
 
-pub returns-then-names-lt-RULE-NODES : goal.returns-then-names-lt-RULE-NODES
-returns-then-names-lt-RULE-NODES g c = (unread_sole (short_list c.if-names-lt-RULE-NODES.true), refl)
+pub returns-then-names-lt-RULE_NODES : goal.returns-then-names-lt-RULE_NODES
+returns-then-names-lt-RULE_NODES g c = (unread_sole (short_list c.if-names-lt-RULE_NODES.true), refl)
 
-pub returns-in-err-parsed : goal.returns-in-err-parsed
-returns-in-err-parsed g c =
-    let p = err_from_is_err_and c.from-residual.result c.from-residual.ensures.1 in
-    rw (p.1, p.2) (unread_sole (by_text c.if-names-lt-RULE-NODES.false c.in-err-parsed.ensures), refl)
+pub returns-in_err-parsed : goal.returns-in_err-parsed
+returns-in_err-parsed g c =
+    let p = err_from_is_err_and c.from_residual.result c.from_residual.ensures.1 in
+    rw (p.1, p.2) (unread_sole (by_text c.if-names-lt-RULE_NODES.false c.in_err-parsed.ensures), refl)
 
 -- what the rule nodes of a text are
 forms : (bs : List ℕ) (p : Parsed) (n : ℕ) → Parses bs p → n ≡ p.count
@@ -30,10 +30,10 @@ forms bs p n q e =
     let given : Gives bs (take n p.nodes) = subst (λ (k : ℕ). Gives bs (take k p.nodes)) (sym e) q.reads in
     (given, given_rooted given, given_ordered given)
 
-pub rule-of-rule-requires : goal.rule-of-rule-requires
-rule-of-rule-requires g c =
-    let p : Parsed = c.in-ok-parsed.parsed in
-    let q = c.in-ok-parsed.ensures in
+pub rule_of-rule-requires : goal.rule_of-rule-requires
+rule_of-rule-requires g c =
+    let p : Parsed = c.in_ok-parsed.parsed in
+    let q = c.in_ok-parsed.ensures in
     let few = q.few in
     let room = q.room in
     let long : length (take (p.count - 0) p.nodes) ≡ p.count - 0 = length-take-le (p.count - 0) p.nodes (omega arith) in
@@ -43,13 +43,13 @@ rule-of-rule-requires g c =
 pub returns : goal.returns
 returns g c =
     let bs : List ℕ = c.args.text.now in
-    let p : Parsed = c.in-ok-parsed.parsed in
+    let p : Parsed = c.in_ok-parsed.parsed in
     let ns : List ParsedNode = take (p.count - 0) p.nodes in
-    let f = forms bs p (p.count - 0) c.in-ok-parsed.ensures (omega arith) in
-    let names : NamesIn g.N.NameLabel.spelled bs ns c.args.names.now c.write-names.new.names = c.write-names.ensures in
-    let made : rule_nodes c.rule-of-rule.result ≡ rule_nodes_of ns = c.rule-of-rule.ensures in
-    let r = texts_select g.row.N.Denot g.N.LabelKind.same g.N.NameLabel.spelled g.N.NameLabel.alike g.met.N.NameLabel.tied bs ns c.args.names.now c.write-names.new.names f.0 names in
-    let read : Readable bs (length c.args.names.now) ns = record { enough = c.if-names-lt-RULE-NODES.false; given = f.0 } in
+    let f = forms bs p (p.count - 0) c.in_ok-parsed.ensures (omega arith) in
+    let names : NamesIn g.N.NameLabel.spelled bs ns c.args.names.now c.write_names.new.names = c.write_names.ensures in
+    let made : rule_nodes c.rule_of-rule.result ≡ rule_nodes_of ns = c.rule_of-rule.ensures in
+    let r = texts_select g.row.N.Denot g.N.LabelKind.same g.N.NameLabel.spelled g.N.NameLabel.alike g.met.N.NameLabel.tied bs ns c.args.names.now c.write_names.new.names f.0 names in
+    let read : Readable bs (length c.args.names.now) ns = record { enough = c.if-names-lt-RULE_NODES.false; given = f.0 } in
     record {
       nodes = ns;
       read = read_sole read;
@@ -57,5 +57,5 @@ returns g c =
       names = names;
       expression = r.0.0;
       stands = r.0.1;
-      selects = subst (λ (rs : List RuleNode). SelectsAlike g.N.LabelKind.same g.N.NameLabel.spelled g.N.NameLabel.alike bs rs c.write-names.new.names) (sym made) r.1;
+      selects = subst (λ (rs : List RuleNode). SelectsAlike g.N.LabelKind.same g.N.NameLabel.spelled g.N.NameLabel.alike bs rs c.write_names.new.names) (sym made) r.1;
     }

@@ -11,14 +11,14 @@ pub loop-i-preserved : goal.loop-i-preserved
 loop-i-preserved c =
     let room = c.loop-i.invariant.0 in (
       length-set c.loop-i.made c.loop-i.i _ ∙ c.loop-i.invariant.0,
-      make_more c.loop-i.made c.args.nodes.now c.loop-i.i blank c.is-any.result c.loop-i-test.true (omega arith) c.is-any.ensures c.loop-i.invariant.1,
+      make_more c.loop-i.made c.args.nodes.now c.loop-i.i blank c.is_any.result c.loop-i-test.true (omega arith) c.is_any.ensures c.loop-i.invariant.1,
     )
 
 whole : (c : goal.After-loop-i) → take (length c.args.nodes.now) c.loop-i.made ≡ rule_nodes_of c.args.nodes.now
 whole c = make_all c.loop-i.made c.args.nodes.now c.loop-i.i c.loop-i-test.false c.loop-i.auto.i-end c.loop-i.invariant.1
 
-pub invariant-of-result : goal.invariant-of-result
-invariant-of-result c = (
+pub invariant_of-result : goal.invariant_of-result
+invariant_of-result c = (
   subst (λ (ns : List RuleNode). 0 < length ns) (sym (whole c)) (let some = c.requires.some in omega (arith, length-map c.args.nodes.now plain)),
   (
     c.requires.few,

@@ -1,4 +1,4 @@
-use Rattle.std.proofs.Common.{◌-◌, drop, arith}
+use Rattle.std.proofs.Common.{drop, arith}
 use Rattle.sources.proofs.TableSteps.{finished, shuts, faults, closes, opens, closed}
 use Rattle.sources.proofs.table.FolderTableSource.next.Goals as goal
 
