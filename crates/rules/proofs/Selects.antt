@@ -1,5 +1,5 @@
 -- What a rule text selects as an expression is where its rule occurs. Assumes nothing.
-use Rattle.std.proofs.Common.{◌≡◌, ℕ, zero, suc, ◌+◌, ◌<◌, ◌≤◌, cond, eqb, ◌⊎◌, List, [], ◌∷◌, ◌++◌, length, Some, None, sym, refl, ap, ◌∙◌, subst, subst₂, inl, inr, ⊎_elim, append_assoc, append-nil, arith, length-append}
+use Rattle.std.proofs.Common.{◌≡◌, ℕ, zero, suc, ◌<◌, ◌≤◌, cond, eqb, ◌⊎◌, List, [], ◌∷◌, ◌++◌, length, Some, None, sym, refl, ap, ◌∙◌, subst, subst₂, inl, inr, ⊎_elim, append_assoc, append-nil, arith, length-append}
 use Rattle.std.proofs.lemmas.Bool.{cond-true, cond-false, eq-eqb, ne_eqb}
 use Rattle.std.specs.List.{slice_get}
 use Rattle.rules.specs.declared.syntax.Kind.TheVariants.{Star, Name}
@@ -9,9 +9,8 @@ use Rattle.rules.specs.declared.node.Edge.TheVariants as edge
 use Rattle.rules.specs.declared.syntax.ParsedNode.{ParsedNode}
 use Rattle.rules.specs.Grammar.{Test, name, star, Between, slash, double_slash, node, Step, step, Predicates, none, predicate, Path, child, descendant, Further, last, further, Text, text}
 use Rattle.rules.specs.Embedding.{Below, direct, deeper, Across}
-use Rattle.rules.specs.XPath as x
 use Rattle.rules.specs.XPath.{Context, LocationPath, LocationStep, ChildOf, Passes, InPath, InStep, Hold, Selected}
-use Rattle.rules.specs.Expression.{word, here, apart, test_of, step_of, predicates_of, path_of, further_of, expression}
+use Rattle.rules.specs.Expression.{word, apart, test_of, step_of, predicates_of, path_of, further_of, expression}
 
 ------------------------------------------------------------------------
 -- lists

@@ -1,5 +1,5 @@
 -- What reading a rule text leaves in the rule and in the list of names.
-use Rattle.std.specs.Prelude.{◌≡◌, ℕ, ◌-◌, ◌<◌, ◌≤◌, Bool, List, [], ◌∷◌, length, ◌≢◌}
+use Rattle.std.specs.Prelude.{◌≡◌, ℕ, ◌<◌, ◌≤◌, Bool, List, [], ◌∷◌, length, ◌≢◌}
 use Rattle.rules.specs.declared.syntax.Kind.TheVariants.{Name}
 use Rattle.rules.specs.declared.syntax.ParsedNode.{ParsedNode}
 use Rattle.rules.specs.declared.refusal.TextRefusal.{TextRefusal}

@@ -5,7 +5,7 @@ use labels::kind::NameLabel;
 
 // `.//` leads to the proper descendants, and `//` at the front to every node of the listing.
 pub fn readings_are_plain<N: NameLabel>() -> u8
-    ensures { PlainReadings spelled alike }
+    ensures { PlainReadings N.spelled N.alike }
 {
     0
 }

@@ -56,7 +56,7 @@ fn rule_of(nodes: &[ParsedNode]) -> Rule
 fn write_names<N: NameLabel>(text: &[u8], nodes: &[ParsedNode], names: &mut [N])
     requires few { length nodes.now ≤ length names.old }
     requires lie { AllByRecursion (Lies text.now) nodes.now }
-    ensures { NamesIn spelled text.now nodes.now names.old names.new }
+    ensures { NamesIn N.spelled text.now nodes.now names.old names.new }
 {
     for (i, node) in nodes.iter().enumerate() {
         let test = node.test;
@@ -73,7 +73,7 @@ fn write_names<N: NameLabel>(text: &[u8], nodes: &[ParsedNode], names: &mut [N])
 
 // The rule of a rule text; the names of its named rule nodes go into `names` at their numbers.
 fn read<N: NameLabel>(text: &[u8], names: &mut [N]) -> Result<Rule, TextRefusal>
-    ensures { MatchResult result (λ rule. ReadInto N.LabelKind.same spelled alike text.now rule names.old names.new) (λ f. Unreadable text.now (length names.old) f × (names.new ≡ names.old)) }
+    ensures { MatchResult result (λ rule. ReadInto N.LabelKind.same N.spelled N.alike text.now rule names.old names.new) (λ f. Unreadable text.now (length names.old) f × (names.new ≡ names.old)) }
 {
     if names.len() < RULE_NODES {
         return Err(TextRefusal::ShortList);
@@ -92,7 +92,7 @@ impl Rule {
         text: &[u8],
         names: &mut [N],
     ) -> Result<(), TextRefusal>
-        ensures { MatchResult result (λ _. ReadInto N.LabelKind.same spelled alike text.now self.new names.old names.new) (λ f. Unread text.now f self.old self.new names.old names.new) }
+        ensures { MatchResult result (λ _. ReadInto N.LabelKind.same N.spelled N.alike text.now self.new names.old names.new) (λ f. Unread text.now f self.old self.new names.old names.new) }
     {
         *self = read(text, names)?;
         Ok(())

@@ -1,4 +1,3 @@
-use Rattle.std.proofs.Common.{true}
 use Rattle.std.proofs.lemmas.Bool.{ltb-true, lt-ltb, false≢true}
 use Rattle.rules.specs.Records.{under}
 use Rattle.rules.proofs.RecordLaws.{hangs_under, root_hangs, root_below}

@@ -24,7 +24,7 @@ pub invariant_of-result : goal.invariant_of-result
 invariant_of-result c =
     let all = whole c.args.bytes.now c.if-bytes-ne0.false c.if-len-eq0.false c.if-len-gt-RULE_NODES.false in
     let r = all_recorded c.args.bytes.now c.loop-i.nodes c.loop-i.i all c.loop-i.invariant.0 c.loop-i-test.false c.loop-i.invariant.1 in
-    (r.whole.some, (c.if-len-gt-RULE_NODES.false, (recorded_rooted r, (recorded_ordered r, tt))))
+    record { some = r.whole.some; few = c.if-len-gt-RULE_NODES.false; rooted = recorded_rooted r; ordered = recorded_ordered r }
 
 pub returns : goal.returns
 returns c =

@@ -18,16 +18,12 @@ whole : (c : goal.After-loop-i) → take (length c.args.nodes.now) c.loop-i.made
 whole c = make_all c.loop-i.made c.args.nodes.now c.loop-i.i c.loop-i-test.false c.loop-i.auto.i-end c.loop-i.invariant.1
 
 pub invariant_of-result : goal.invariant_of-result
-invariant_of-result c = (
-  subst (λ (ns : List RuleNode). 0 < length ns) (sym (whole c)) (let some = c.requires.some in omega (arith, length-map c.args.nodes.now plain)),
-  (
-    c.requires.few,
-    (
-      subst (λ (ns : List RuleNode). Rooted ns) (sym (whole c)) c.requires.rooted,
-      (subst (λ (ns : List RuleNode). Ordered ns) (sym (whole c)) c.requires.ordered, tt),
-    ),
-  ),
-)
+invariant_of-result c = record {
+  some = subst (λ (ns : List RuleNode). 0 < length ns) (sym (whole c)) (let some = c.requires.some in omega (arith, length-map c.args.nodes.now plain));
+  few = c.requires.few;
+  rooted = subst (λ (ns : List RuleNode). Rooted ns) (sym (whole c)) c.requires.rooted;
+  ordered = subst (λ (ns : List RuleNode). Ordered ns) (sym (whole c)) c.requires.ordered;
+}
 
 pub returns : goal.returns
 returns c = make_all c.loop-i.made c.args.nodes.now c.loop-i.i c.loop-i-test.false c.loop-i.auto.i-end c.loop-i.invariant.1

@@ -7,7 +7,6 @@ use Rattle.rules.specs.declared.syntax.Kind.TheVariants.{Name}
 use Rattle.rules.specs.Readers.{Lies}
 use Rattle.rules.specs.Naming.{NamesIn, behind, spelling}
 use Rattle.rules.proofs.Written.{blank, every_at, same_part, name_turn, skip_turn}
-use Rattle.rules.proofs.text.write_names.Given as given
 use Rattle.rules.proofs.text.write_names.Goals as goal
 use Rattle.rules.proofs.text.write_names.Goals.{in-Name, in_default}
 

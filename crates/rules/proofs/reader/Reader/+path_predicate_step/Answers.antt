@@ -2,12 +2,12 @@ use Rattle.std.proofs.lemmas.Result.{err_from_is_err_and}
 use Rattle.rules.proofs.Going.{first_fails, further_fails}
 use Rattle.rules.proofs.reader.Reader.+path_predicate_step.Goals as goal
 
-pub path-returns-in-err-last : goal.path-returns-in-err-last
-path-returns-in-err-last t c =
-    let p = err_from_is_err_and c.from-residual-in-err-last.result c.from-residual-in-err-last.ensures.1 in
-    rw (p.1, p.2) (first_fails c.args.n c.args.room _ c.in-ok-test.ensures c.in-err-last.ensures)
+pub path-returns-in_err-last : goal.path-returns-in_err-last
+path-returns-in_err-last t c =
+    let p = err_from_is_err_and c.from_residual-in_err-last.result c.from_residual-in_err-last.ensures.1 in
+    rw (p.1, p.2) (first_fails c.args.n c.args.room _ c.in_ok-test.ensures c.in_err-last.ensures)
 
-pub path-returns-in-err-last-2 : goal.path-returns-in-err-last-2
-path-returns-in-err-last-2 t c =
-    let p = err_from_is_err_and c.from-residual-in-err-last-2.result c.from-residual-in-err-last-2.ensures.1 in
-    rw (p.1, p.2) (further_fails c.args.n c.args.room _ c.in-ok-test.ensures c.in-ok-last.ensures c.loop-edge.invariant c.in-Some.ensures c.in-err-last-2.ensures)
+pub path-returns-in_err-last-2 : goal.path-returns-in_err-last-2
+path-returns-in_err-last-2 t c =
+    let p = err_from_is_err_and c.from_residual-in_err-last-2.result c.from_residual-in_err-last-2.ensures.1 in
+    rw (p.1, p.2) (further_fails c.args.n c.args.room _ c.in_ok-test.ensures c.in_ok-last.ensures c.loop-edge.invariant c.in-Some.ensures c.in_err-last-2.ensures)
