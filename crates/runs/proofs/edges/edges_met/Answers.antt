@@ -54,5 +54,5 @@ returns c =
     let long : length c.nodes-nodes.result.now ≡ length (rule_nodes c.args.rule.now) = ap length c.nodes-nodes.ensures in
     let one : 1 ≤ length c.nodes-nodes.result.now = omega arith in
     let end = c.loop-y.auto.y-end one in
-    subst (λ (ms : List RuleNode). (x : ℕ) → Has c.below-without.result x ↔ EdgesMet ms c.args.child c.args.below x) c.nodes-nodes.ensures
-    (edges_all ns c.args.child c.args.below c.loop-y.y c.loop-y.unmet c.below-without.result c.loop-y.invariant (omega arith) (omega arith) c.below-without.ensures)
+    subst (λ (ms : List RuleNode). (x : ℕ) → Has c.below_without.result x ↔ EdgesMet ms c.args.child c.args.below x) c.nodes-nodes.ensures
+    (edges_all ns c.args.child c.args.below c.loop-y.y c.loop-y.unmet c.below_without.result c.loop-y.invariant (omega arith) (omega arith) c.below_without.ensures)

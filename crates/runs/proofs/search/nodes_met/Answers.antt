@@ -1,4 +1,4 @@
-use Rattle.std.proofs.Common.{◌≡◌, ℕ, ◌+◌, ◌<◌, true, false, ◌⊎◌, length, get_or, sym, ap, ◌∙◌, subst, inl, inr, ⊎_elim, arith}
+use Rattle.std.proofs.Common.{◌≡◌, ℕ, ◌+◌, ◌<◌, true, length, get_or, sym, ap, ◌∙◌, subst, inl, inr, ⊎_elim, arith}
 use Rattle.std.proofs.lemmas.List.{get_or_read}
 use Rattle.std.proofs.lemmas.Bool.{false≢true}
 use Rattle.rules.specs.Nodes.{rule_nodes}
@@ -18,7 +18,7 @@ loop-x-preserved g c =
     let P : ℕ → Type 0 = λ x. (x < length c.nodes-count.result.now) × (g.L.LabelKind.same l (get_or ls x l) ≡ true) in
     let E : g.row.L.Denot → Type 0 = λ t. g.L.LabelKind.same l t ≡ true in
     let e : c.index-labels-x.result ≡ get_or ls n l = get_or_read ls n c.index-labels-x.result c.loop-x-test.true c.index-labels-x.is l in
-    let u₀ : ℕ = c.any-nodes-met.result in
+    let u₀ : ℕ = c.any_nodes-met.result in
     let Q : ℕ → Type 0 = λ u. Grown P u₀ (n + 1) u in
     let few = few_nodes c.args.rule.now in
     let long : length c.nodes-count.result.now ≡ length (rule_nodes c.args.rule.now) = ap length c.nodes-count.ensures in
@@ -38,7 +38,7 @@ loop-x-preserved g c =
 
 pub returns : goal.returns
 returns g c x =
-    let a = c.any-nodes-met.ensures x in
+    let a = c.any_nodes-met.ensures x in
     let l = c.args.label.now in
     let ls = c.args.labels.now in
     let long : length c.nodes-count.result.now ≡ length (rule_nodes c.args.rule.now) = ap length c.nodes-count.ensures in (

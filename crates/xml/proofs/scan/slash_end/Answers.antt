@@ -11,7 +11,7 @@ returns-in-62 c =
     let xs = c.args.input.now in
     slash_tag xs c.args.at c.requires.slash (omega (arith, ltb-true, ltb-false, rest_length xs (c.args.at + 1))) (omega (arith, rest_first xs (c.args.at + 1)))
 
-pub returns-in-default : goal.returns-in-default
-returns-in-default c =
+pub returns-in_default : goal.returns-in_default
+returns-in_default c =
     let xs = c.args.input.now in
     slash_byte c.requires.slash (omega (arith, ltb-true, ltb-false, rest_length xs (c.args.at + 1))) (λ e. omega (arith, rest_first xs (c.args.at + 1)))

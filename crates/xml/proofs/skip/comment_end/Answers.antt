@@ -3,8 +3,8 @@ use Rattle.xml.specs.Shapes.{reaches}
 use Rattle.xml.specs.declared.fault.Markup.TheVariants.{Comment}
 use Rattle.xml.proofs.skip.comment_end.Goals as goal
 
-pub overflow-add-at : goal.overflow-add-at
-overflow-add-at c = let h = reaches c.args.input.now c.args.at Comment c.requires (omega arith) in search rules
+pub overflow_add-at : goal.overflow_add-at
+overflow_add-at c = let h = reaches c.args.input.now c.args.at Comment c.requires (omega arith) in search rules
 
-pub dashes-end-requires : goal.dashes-end-requires
-dashes-end-requires c = let h = reaches c.args.input.now c.args.at Comment c.requires (omega arith) in omega arith
+pub dashes_end-requires : goal.dashes_end-requires
+dashes_end-requires c = let h = reaches c.args.input.now c.args.at Comment c.requires (omega arith) in omega arith

@@ -4,24 +4,24 @@ use Rattle.xml.specs.Markup.CommentFault.{ended, byte_behind}
 use Rattle.xml.specs.Shapes.{rest_byte, rest_length, pair_here}
 use Rattle.xml.proofs.skip.dashes_end.Goals as goal
 
-pub returns-in-default : goal.returns-in-default
-returns-in-default c =
+pub returns-in_default : goal.returns-in_default
+returns-in_default c =
     let xs = c.args.input.now in
-    let d = c.pair-place-dashes.result in
-    ended d c.pair-place-dashes.ensures (omega (arith, ltb-true, ltb-false, rest_length xs d))
+    let d = c.pair_place-dashes.result in
+    ended d c.pair_place-dashes.ensures (omega (arith, ltb-true, ltb-false, rest_length xs d))
 
 pub returns-in-62 : goal.returns-in-62
 returns-in-62 c =
     let xs = c.args.input.now in
-    let d = c.pair-place-dashes.result in
+    let d = c.pair_place-dashes.result in
     let l : d + 2 < length xs = omega (arith, ltb-true, ltb-false, rest_length xs d) in
-    let h = pair_here xs 45 45 d (c.pair-place-dashes.ensures.stops (omega arith)) in
+    let h = pair_here xs 45 45 d (c.pair_place-dashes.ensures.stops (omega arith)) in
     let f : byte xs (d + 2) ≡ 62 = omega (arith, rest_byte xs d 2) in
     let e : d + 1 + 1 ≡ d + 2 = omega arith in
-    record { dashes = d; first = c.pair-place-dashes.ensures; closes = (h.0, (h.1, (ap (byte xs) e ∙ f, tt))); ends = refl }
+    record { dashes = d; first = c.pair_place-dashes.ensures; closes = (h.0, (h.1, (ap (byte xs) e ∙ f, tt))); ends = refl }
 
 pub returns-in-len3-up : goal.returns-in-len3-up
 returns-in-len3-up c =
     let xs = c.args.input.now in
-    let d = c.pair-place-dashes.result in
-    byte_behind d c.pair-place-dashes.ensures (omega (arith, ltb-true, ltb-false, rest_length xs d)) (λ e. omega (arith, rest_byte xs d 2))
+    let d = c.pair_place-dashes.result in
+    byte_behind d c.pair_place-dashes.ensures (omega (arith, ltb-true, ltb-false, rest_length xs d)) (λ e. omega (arith, rest_byte xs d 2))

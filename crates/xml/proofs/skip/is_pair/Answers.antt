@@ -7,5 +7,5 @@ few [] a b h l = sym (and_right (eqb 0 a) (eqb 0 b) (ne_eqb 0 b (λ e. omega ari
 few (x ∷ []) a b h l = sym (and_right (eqb x a) (eqb 0 b) (ne_eqb 0 b (λ e. omega arith)))
 few (x ∷ y ∷ xs) a b h l = absurd (omega arith)
 
-pub returns-in-default : goal.returns-in-default
-returns-in-default c = few c.args.rest.now c.args.first c.args.second c.requires (omega (arith, ltb-true, ltb-false))
+pub returns-in_default : goal.returns-in_default
+returns-in_default c = few c.args.rest.now c.args.first c.args.second c.requires (omega (arith, ltb-true, ltb-false))

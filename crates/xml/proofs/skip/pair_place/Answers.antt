@@ -10,13 +10,13 @@ here xs d a b r e = let f = rest_first xs d in let g = rest_byte xs d 1 in sym (
 pub loop-at-preserved : goal.loop-at-preserved
 loop-at-preserved c =
     let e : apart c.args.input.now c.args.first c.args.second c.loop-at.at ≡ true =
-    here c.args.input.now c.loop-at.at c.args.first c.args.second false c.if-not-is-pair.ensures in
+    here c.args.input.now c.loop-at.at c.args.first c.args.second false c.if-not-is_pair.ensures in
     (omega arith, omega arith, one_more _ _ _ c.loop-at.invariant.2 e)
 
-pub returns-else-not-is-pair : goal.returns-else-not-is-pair
-returns-else-not-is-pair c = record {
+pub returns-else-not-is_pair : goal.returns-else-not-is_pair
+returns-else-not-is_pair c = record {
   late = c.loop-at.invariant.0;
   within = c.loop-at.invariant.1;
   all = c.loop-at.invariant.2;
-  stops = λ _. here c.args.input.now c.loop-at.at c.args.first c.args.second true c.if-not-is-pair.ensures;
+  stops = λ _. here c.args.input.now c.loop-at.at c.args.first c.args.second true c.if-not-is_pair.ensures;
 }

@@ -7,19 +7,19 @@ use Rattle.xml.proofs.Between.{begins, text_by, text_no, comment_by, comment_no,
 use Rattle.xml.proofs.skip.skip_one.Goals as goal
 use Rattle.xml.proofs.skip.skip_one.Goals.{then-inside, else-inside}
 
-pub returns-in-err-comment-end : goal.returns-in-err-comment-end
-returns-in-err-comment-end c =
-    let p = err_from_is_err_and c.from-residual.result c.from-residual.ensures.1 in
-    rw (p.1, p.2) (comment_no _ _ _ _ (begins c.args.input.now c.args.at Comment c.in-Comment.ensures) c.in-err-comment-end.ensures)
+pub returns-in_err-comment_end-in-Comment : goal.returns-in_err-comment_end-in-Comment
+returns-in_err-comment_end-in-Comment c =
+    let p = err_from_is_err_and c.from_residual.result c.from_residual.ensures.1 in
+    rw (p.1, p.2) (comment_no _ _ _ _ (begins c.args.input.now c.args.at Comment c.in-Comment.ensures) c.in_err-comment_end-in-Comment.ensures)
 
-pub returns-in-err-instruction-end : goal.returns-in-err-instruction-end
-returns-in-err-instruction-end c =
-    let p = err_from_is_err_and c.from-residual-in-err-instruction-end.result c.from-residual-in-err-instruction-end.ensures.1 in
+pub returns-in_err-instruction_end-in-Instruction : goal.returns-in_err-instruction_end-in-Instruction
+returns-in_err-instruction_end-in-Instruction c =
+    let p = err_from_is_err_and c.from_residual-in_err-instruction_end-in-Instruction.result c.from_residual-in_err-instruction_end-in-Instruction.ensures.1 in
     rw (p.1, p.2)
-    (instruction_no _ _ _ _ (begins c.args.input.now c.args.at Instruction c.in-Instruction.ensures) c.in-err-instruction-end.ensures)
+    (instruction_no _ _ _ _ (begins c.args.input.now c.args.at Instruction c.in-Instruction.ensures) c.in_err-instruction_end-in-Instruction.ensures)
 
-pub returns-then-is-white : goal.returns-then-is-white
-returns-then-is-white c =
+pub returns-then-is_white : goal.returns-then-is_white
+returns-then-is_white c =
     let xs = c.args.input.now in
     let p = c.args.at in
     let e = begins xs p Text c.in-Text.ensures in (
@@ -28,26 +28,26 @@ returns-then-is-white c =
       omega (arith, reaches xs p Text (sym e) (omega arith)),
     )
 
-pub returns-else-is-white : goal.returns-else-is-white
-returns-else-is-white c =
+pub returns-else-is_white : goal.returns-else-is_white
+returns-else-is_white c =
     elim c.if-inside.branch [
       | then-inside w ↦ absurd (let z : ◌≡◌ {A = ℕ} 0 1 = cc in omega arith)
       | else-inside w ↦ text_no _ _ _ (begins c.args.input.now c.args.at Text c.in-Text.ensures) w.if-inside.false (cc)
     ]
 
-pub returns-in-ok-comment-end : goal.returns-in-ok-comment-end
-returns-in-ok-comment-end c =
+pub returns-in_ok-comment_end-in-Comment : goal.returns-in_ok-comment_end-in-Comment
+returns-in_ok-comment_end-in-Comment c =
     let xs = c.args.input.now in
-    let d = c.in-ok-comment-end.ensures in
+    let d = c.in_ok-comment_end-in-Comment.ensures in
     let e = d.ends in
     let late = d.first.late in
     let l = standing xs (d.dashes + 1 + 1) 62 d.closes.1.1.0 (omega arith) in
     (comment_by _ _ _ _ (begins xs c.args.at Comment c.in-Comment.ensures) d, omega arith, omega arith)
 
-pub returns-in-ok-instruction-end : goal.returns-in-ok-instruction-end
-returns-in-ok-instruction-end c =
+pub returns-in_ok-instruction_end-in-Instruction : goal.returns-in_ok-instruction_end-in-Instruction
+returns-in_ok-instruction_end-in-Instruction c =
     let xs = c.args.input.now in
-    let d = c.in-ok-instruction-end.ensures in
+    let d = c.in_ok-instruction_end-in-Instruction.ensures in
     let e = d.ends in
     let late = d.first.late in
     let l = standing xs (d.close + 1) 62 d.closes.1.0 (omega arith) in

@@ -14,4 +14,4 @@ pub returns-in-60 : goal.returns-in-60
 returns-in-60 c =
     let bs : List ℕ = c.args.bytes.now in
     let first : get_or c.args.bytes.now 0 0 ≡ 60 = search rules in
-    c.behind-bracket.ensures ∙ ap behind (take_rest bs 1) ∙ after_bracket bs first
+    c.behind_bracket.ensures ∙ ap behind (take_rest bs 1) ∙ after_bracket bs first

@@ -42,7 +42,7 @@ returns-then-not-wait c =
       closes =
           subst G (sym (ap words c.if-not-wait.ensures.1))
           (Closes.full (top rule s pos) (rest rule s pos) c.both-found.result (is_top rule s pos)
-          (found_by rule s pos c.both-found.result c.edges-met.result c.both-found.ensures c.edges-met.ensures)
+          (found_by rule s pos c.both-found.result c.edges_met.result c.both-found.ensures c.edges_met.ensures)
           (c.has.ensures.0 c.if-has.true)
           (omega (arith, length_queued s.ring s.head s.waiting, c.if-not-wait.ensures.0)));
     }
@@ -64,7 +64,7 @@ returns-then-has c =
       closes =
           subst G (sym e)
           (Closes.selects l (rest rule s pos) w (is_top rule s pos)
-          (found_by rule s pos w c.edges-met.result c.both-found.ensures c.edges-met.ensures)
+          (found_by rule s pos w c.edges_met.result c.both-found.ensures c.edges_met.ensures)
           (c.has.ensures.0 c.if-has.true)
           (omega (arith, length_queued s.ring s.head s.waiting, c.if-not-wait.ensures.0)));
     }
@@ -85,6 +85,6 @@ returns c =
       closes =
           subst G (sym e)
           (Closes.passes l (rest rule s pos) w (is_top rule s pos)
-          (found_by rule s pos w c.edges-met.result c.both-found.ensures c.edges-met.ensures)
+          (found_by rule s pos w c.edges_met.result c.both-found.ensures c.edges_met.ensures)
           (not_from_Decides c.has.result c.has.ensures c.if-has.false));
     }

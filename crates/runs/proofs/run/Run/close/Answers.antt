@@ -5,10 +5,10 @@ use Rattle.runs.proofs.CloseSim.{close_sim}
 use Rattle.runs.proofs.RunLaws.{run_kept}
 use Rattle.runs.proofs.run.Run.close.Goals as goal
 
-pub invariant-of-self : goal.invariant-of-self
-invariant-of-self c =
+pub invariant_of-self : goal.invariant_of-self
+invariant_of-self c =
     let rule = c.args.self.now.rule.now in
-    (∥∥₁_map c.args.self.now.real (λ s. let r = close_sim (rule_nodes rule) rule.ordered rule.some s.0 s.1 c.close.ensures.closes in (r.0, r.2)), tt)
+    record { real = ∥∥₁_map c.args.self.now.real (λ s. let r = close_sim (rule_nodes rule) rule.ordered rule.some s.0 s.1 c.close.ensures.closes in (r.0, r.2)) }
 
 pub returns : goal.returns
 returns c =

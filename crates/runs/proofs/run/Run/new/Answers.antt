@@ -6,10 +6,10 @@ use Rattle.runs.specs.Stands.{Shows}
 use Rattle.runs.proofs.RunLaws.{new_shows}
 use Rattle.runs.proofs.run.Run.new.Goals as goal
 
-pub invariant-of-result : goal.invariant-of-result
-invariant-of-result c =
+pub invariant_of-result : goal.invariant_of-result
+invariant_of-result c =
     let P : Words → Type 0 = λ s. Shows (rule_nodes c.args.rule.now) s empty in
-    (∣ (empty, subst P (sym c.new.ensures) (new_shows (rule_nodes c.args.rule.now))) ∣₁, tt)
+    record { real = ∣ (empty, subst P (sym c.new.ensures) (new_shows (rule_nodes c.args.rule.now))) ∣₁ }
 
 pub returns : goal.returns
 returns c =

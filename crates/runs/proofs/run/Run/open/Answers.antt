@@ -5,16 +5,16 @@ use Rattle.runs.proofs.OpenSim.{open_sim}
 use Rattle.runs.proofs.RunLaws.{run_kept}
 use Rattle.runs.proofs.run.Run.open.Goals as goal
 
-pub invariant-of-self : goal.invariant-of-self
-invariant-of-self g c =
+pub invariant_of-self : goal.invariant_of-self
+invariant_of-self g c =
     let rule = c.args.self.now.rule.now in
-    (∥∥₁_map c.args.self.now.real (λ s. let r = open_sim (rule_nodes rule) s.0 c.nodes-met-met.result s.1 c.open.ensures.opens in (r.0, r.2)), tt)
+    record { real = ∥∥₁_map c.args.self.now.real (λ s. let r = open_sim (rule_nodes rule) s.0 c.nodes_met-met.result s.1 c.open.ensures.opens in (r.0, r.2)) }
 
 pub returns : goal.returns
 returns g c =
     let rule = c.args.self.now.rule.now in
     record {
       rule = refl;
-      step = (c.nodes-met-met.result, c.nodes-met-met.ensures, λ m h. open_sim (rule_nodes rule) m c.nodes-met-met.result h c.open.ensures.opens);
+      step = (c.nodes_met-met.result, c.nodes_met-met.ensures, λ m h. open_sim (rule_nodes rule) m c.nodes_met-met.result h c.open.ensures.opens);
       refused = run_kept c.args.self.now _ c.open.result refl c.open.ensures.kept;
     }

@@ -6,16 +6,15 @@ use Rattle.runs.specs.Model.{taking}
 use Rattle.runs.proofs.TakeSim.{take_does, take_list, take_shows}
 use Rattle.runs.proofs.run.Run.take.Goals as goal
 
-pub invariant-of-self : goal.invariant-of-self
-invariant-of-self c =
-    let rule = c.args.self.now.rule.now in (
-      ∥∥₁_map c.args.self.now.real
+pub invariant_of-self : goal.invariant_of-self
+invariant_of-self c =
+    let rule = c.args.self.now.rule.now in record {
+      real = ∥∥₁_map c.args.self.now.real
           (λ s. (
             taking s.0 (length c.args.out.now),
             take_shows (rule_nodes rule) s.0 (words c.args.self.now.state) (words c.take.new.self) c.args.out.now c.take.new.out c.take.result s.1 c.take.ensures,
-          )),
-      tt,
-    )
+          ));
+    }
 
 pub returns : goal.returns
 returns c =

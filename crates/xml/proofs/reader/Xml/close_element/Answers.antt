@@ -3,8 +3,8 @@ use Rattle.xml.specs.Means.{xml_names}
 use Rattle.xml.proofs.Steps.{handed, closes_gives, pop_names, open_found, begun_open}
 use Rattle.xml.proofs.reader.Xml.close_element.Goals as goal
 
-pub overflow-sub-self : goal.overflow-sub-self
-overflow-sub-self c =
+pub overflow_sub-self : goal.overflow_sub-self
+overflow_sub-self c =
     let s = c.args.self.now in
     open_found s.input.now s.place s.opened s.depth s.rooted _ c.args.«end» c.requires.tag.found
 

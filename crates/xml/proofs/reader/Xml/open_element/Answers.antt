@@ -10,11 +10,11 @@ use Rattle.xml.proofs.Between.{found}
 use Rattle.xml.proofs.Steps.{handed, empty_hands, opens_gives, empty_gives, push_names}
 use Rattle.xml.proofs.reader.Xml.open_element.Goals as goal
 
-pub invariant-of-self : goal.invariant-of-self
-invariant-of-self c =
+pub invariant_of-self : goal.invariant_of-self
+invariant_of-self c =
     let s = c.args.self.now in
     let l = standing s.input.now c.args.close 62 c.requires.tag.tag.closes (omega arith) in
-    (omega arith, (s.few, (s.inside, (λ e. absurd (both_ways _ e refl), tt))))
+    record { within = omega arith; few = s.few; inside = s.inside; fresh = λ e. absurd (both_ways _ e refl) }
 
 pub returns-then-input-close-eq47 : goal.returns-then-input-close-eq47
 returns-then-input-close-eq47 c =
@@ -28,8 +28,8 @@ returns-then-input-close-eq47 c =
     empty_hands s _ _ c.requires.still refl refl
     (empty_gives xs s.place (xml_names s) s.rooted n (q + 1) c.label-label.result c.label-label.ensures d)
 
-pub invariant-of-self-2 : goal.invariant-of-self-2
-invariant-of-self-2 c =
+pub invariant_of-self-2 : goal.invariant_of-self-2
+invariant_of-self-2 c =
     let s = c.args.self.now in
     let h = c.requires.tag in
     let l = standing s.input.now c.args.close 62 h.tag.closes (omega arith) in
@@ -41,7 +41,7 @@ invariant-of-self-2 c =
     below_more _ _
     (λ k b. let ne : k ≢ s.depth = omega arith in rw get_or-set_other (s.inside k b))
     (rw get_or-set_same (omega arith)) in
-    (omega arith, (omega arith, (all, (λ e. absurd (both_ways _ e refl), tt))))
+    record { within = omega arith; few = omega arith; inside = all; fresh = λ e. absurd (both_ways _ e refl) }
 
 pub returns : goal.returns
 returns c =

@@ -23,18 +23,18 @@ returns-then-self-ge-LEVELS c =
     refused_hands s (Deep s.place) c.requires.still
     (found _ _ _ _ StartTag _ (sym c.requires.tag) (deep (omega (arith, length_names s.input.now s.opened s.depth))))
 
-pub returns-in-err-start-tag : goal.returns-in-err-start-tag
-returns-in-err-start-tag c =
+pub returns-in_err-start_tag : goal.returns-in_err-start_tag
+returns-in_err-start_tag c =
     let s = c.args.self.now in
-    let p = err_from_is_err_and c.from-residual.result c.from-residual.ensures.1 in
+    let p = err_from_is_err_and c.from_residual.result c.from_residual.ensures.1 in
     let r : Room (xml_names s) s.rooted = room s.input.now s.opened s.depth s.rooted (omega arith)
     (elim c.else-self-eq0.branch [ else-self-eq0-via-then-self-eq0+else-self w ↦ λ _. w.if-self.false | else-self-eq0-via-else-self-eq0 w ↦ λ e. absurd (w.if-self-eq0.false e) ]) in
-    rw (p.1, p.2) (refused_hands s (Scan c.in-err-start-tag.field-0.0) c.requires.still (found _ _ _ _ StartTag _ (sym c.requires.tag) (start_fault r c.in-err-start-tag.ensures)))
+    rw (p.1, p.2) (refused_hands s (Scan c.in_err-start_tag.field-0.0) c.requires.still (found _ _ _ _ StartTag _ (sym c.requires.tag) (start_fault r c.in_err-start_tag.ensures)))
 
 pub returns : goal.returns
 returns c =
     let s = c.args.self.now in
-    let h = c.in-ok-start-tag.ensures in
+    let h = c.in_ok-start_tag.ensures in
     let r : Room (xml_names s) s.rooted = room s.input.now s.opened s.depth s.rooted (omega arith)
     (elim c.else-self-eq0.branch [ else-self-eq0-via-then-self-eq0+else-self w ↦ λ _. w.if-self.false | else-self-eq0-via-else-self-eq0 w ↦ λ e. absurd (w.if-self-eq0.false e) ]) in
     record { begins = c.requires.tag; room = r; name = h.0; tag = h.1 }
