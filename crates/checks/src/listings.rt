@@ -30,43 +30,42 @@ fn done(rt: &impl Abort, input: &[u8], events: usize) {
 }
 
 // It has this fault after so many events.
-fn refused(rt: &impl Abort, input: &[u8], events: usize, fault: XmlFault) -> Result<(), Fail> {
+fn refused(rt: &impl Abort, input: &[u8], events: usize, fault: XmlFault) {
     assert_eq!(rt; drained(input), (events, Some(fault)));
-    Ok(())
 }
 
 #[test]
-fn listings(rt: HostRuntime) -> Result<(), Fail> {
+fn listings(rt: HostRuntime) {
     done(&rt, b"<a/>", 2);
     done(&rt, b"<?x?> <a b='/'> t <!-- c --><b/></a > ", 4);
-    refused(&rt, b"<a/><b/>", 2, XmlFault::Scan(ScanFault::Byte(4)))?;
-    refused(&rt, b"<!-->", 0, XmlFault::Scan(ScanFault::End(5)))?;
-    refused(&rt, b"<!--->", 0, XmlFault::Scan(ScanFault::End(6)))?;
-    refused(&rt, b"<?>", 0, XmlFault::Scan(ScanFault::End(3)))?;
+    refused(&rt, b"<a/><b/>", 2, XmlFault::Scan(ScanFault::Byte(4)));
+    refused(&rt, b"<!-->", 0, XmlFault::Scan(ScanFault::End(5)));
+    refused(&rt, b"<!--->", 0, XmlFault::Scan(ScanFault::End(6)));
+    refused(&rt, b"<?>", 0, XmlFault::Scan(ScanFault::End(3)));
     refused(
         &rt,
         b"<a12345678901234567890123456789012>",
         0,
         XmlFault::Scan(ScanFault::LongName(1)),
-    )?;
-    refused(&rt, b"<a><b></a>", 2, XmlFault::WrongName(8))?;
-    refused(&rt, b"<!DOCTYPE a><a/>", 0, XmlFault::NotComment(0))
+    );
+    refused(&rt, b"<a><b></a>", 2, XmlFault::WrongName(8));
+    refused(&rt, b"<!DOCTYPE a><a/>", 0, XmlFault::NotComment(0));
 }
 
 #[test]
-fn levels(rt: HostRuntime) -> Result<(), Fail> {
+fn levels(rt: HostRuntime) {
     let mut input = [b'a'; 387];
     for level in 0..129 {
         input[3 * level] = b'<';
         input[3 * level + 2] = b'>';
     }
-    refused(&rt, &input, 128, XmlFault::Deep(384))
+    refused(&rt, &input, 128, XmlFault::Deep(384));
 }
 
 #[test]
 fn looks(rt: HostRuntime) -> Result<(), Fail> {
     let mut source = Xml::new(b" <ab><c/></ab>");
-    assert_eq!(rt; source.look_ahead()?, b"ab");
+    assert_eq!(rt; source.look_ahead()?, b"ab".as_slice());
     let Some(event) = source.next()? else {
         return Err(Fail::new("no event"));
     };

@@ -4,9 +4,9 @@ use Rattle.birdelectrum.specs.Reports.{Reports}
 use Rattle.birdelectrum.proofs.ReportLaws.{rule_refused, rule_read}
 use Rattle.birdelectrum.proofs.report.report_on.Goals as goal
 
-pub slice-bounds-feed-end : goal.slice-bounds-feed-end
-slice-bounds-feed-end c =
-    let few = few_nodes c.read-text.new.self in
+pub slice_bounds-feed-end : goal.slice_bounds-feed-end
+slice_bounds-feed-end c =
+    let few = few_nodes c.read_text.new.self in
     let long = ap length c.nodes-count.ensures in
     omega arith
 
@@ -16,14 +16,14 @@ returns-then-input-gt-INPUT c = record { fits = omega arith; reports = Reports.t
 pub returns-in-Err : goal.returns-in-Err
 returns-in-Err c = record {
   fits = omega arith;
-  reports = rule_refused c.args.input.now c.line-end-end.result (c.line-end-end.result - 0) c.number.result c.place.result
-      c.in-Err.ensures (omega arith) c.if-input-gt-INPUT.false c.line-end-end.ensures (omega arith) c.number.ensures c.place.ensures;
+  reports = rule_refused c.args.input.now c.line_end-end.result (c.line_end-end.result - 0) c.number.result c.place.result
+      c.in-Err.ensures (omega arith) c.if-input-gt-INPUT.false c.line_end-end.ensures (omega arith) c.number.ensures c.place.ensures;
 }
 
 pub returns : goal.returns
 returns c = record {
   fits = c.feed.ensures;
-  reports = let read = c.in-default.ensures in
-      rule_read c.args.input.now c.line-end-end.result (c.line-end-end.result - 0) read.nodes c.feed.result
-      read.read.holds.given c.if-input-gt-INPUT.false c.line-end-end.ensures (omega arith);
+  reports = let read = c.in_default.ensures in
+      rule_read c.args.input.now c.line_end-end.result (c.line_end-end.result - 0) read.nodes c.feed.result
+      read.read.holds.given c.if-input-gt-INPUT.false c.line_end-end.ensures (omega arith);
 }

@@ -2,4 +2,4 @@ use Rattle.std.proofs.Common.{◌≡◌, length}
 use Rattle.checks.proofs.listings.levels.Given as goal
 
 abbrev pub invariant-loop-level : goal.invariant-loop-level
-invariant-loop-level l = length l.input ≡ 387
+invariant-loop-level g l = length l.input ≡ 387
