@@ -48,6 +48,26 @@ fn names(rt: HostRuntime) {
     assert_eq!(rt; count(&text), Err(TextRefusal::LongName(2)));
 }
 
+// The text of one step with as many predicates `[*]` as fit the room, and their number.
+fn predicates(text: &mut [u8; 195]) {
+    text[0] = b'/';
+    text[1] = b'/';
+    text[2] = b'*';
+    for i in 1..65usize {
+        text[3 * i] = b'[';
+        text[3 * i + 1] = b'*';
+        text[3 * i + 2] = b']';
+    }
+}
+
+#[test]
+fn tests(rt: HostRuntime) {
+    let mut text = [0; 195];
+    predicates(&mut text);
+    assert_eq!(rt; count(&text[0..192]), Ok(64));
+    assert_eq!(rt; count(&text), Err(TextRefusal::ManyTests(193)));
+}
+
 // Writes a text of 64 tests in 192 bytes, and a bracket behind it.
 fn many_tests(text: &mut [u8; 227]) {
     text[0] = b'/';
@@ -62,7 +82,7 @@ fn many_tests(text: &mut [u8; 227]) {
 }
 
 #[test]
-fn tests(rt: HostRuntime) {
+fn named_last_test(rt: HostRuntime) {
     let mut text = [b'n'; 227];
     many_tests(&mut text);
     assert_eq!(rt; count(&text[0..192]), Ok(64));

@@ -11,7 +11,7 @@ use Rattle.std.proofs.lemmas.Bool.{false≢true, cases_lt, cond-false, and_parts
 use Rattle.std.proofs.Math.Nat.{pow-zero, pow-le-pow_right}
 use Rattle.std.proofs.lemmas.List.{length-append, length_push, take_at, drop_at, same_from_push, drop-drop, take-append-drop, take_rest, take_all, length-take-le, length-drop}
 use Rattle.labels.specs.declared.name.Name.{Name}
-use Rattle.labels.specs.Names.{fixed, bytes_of, written, word_of, name_of, MadeFrom}
+use Rattle.labels.specs.Names.{fixed, bytes_of, written, word_of, name_of, MadeFrom, OnlyName}
 
 pub length_fixed : (n w : ℕ) → length (fixed n w) ≡ n
 length_fixed zero w = refl
@@ -289,4 +289,7 @@ kept_all : (bs : List ℕ) (n : Name) → bytes_of n ≡ bs → bytes_of n ≡ k
 kept_all bs n e = e ∙ sym (kept_short bs (few_bytes bs n e))
 
 pub named : (bs : List ℕ) (n : Name) → ((i : ℕ) → slice_index bs i < 256) → bytes_of n ≡ bs → MadeFrom bs n
-named bs n h e = record { few = few_bytes bs n e; bytes = e; name = is_name_of bs n h e; only = λ m f. bytes_one m n (f ∙ sym e); kept = kept_all bs n e }
+named bs n h e = record { bytes = e; name = is_name_of bs n h e; kept = kept_all bs n e }
+
+pub only_name : (bs : List ℕ) (n : Name) → bytes_of n ≡ bs → OnlyName bs n
+only_name bs n e = record { few = few_bytes bs n e; only = λ m f. bytes_one m n (f ∙ sym e) }

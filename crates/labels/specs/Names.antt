@@ -52,13 +52,16 @@ cut_name n few bs = record {
 unfoldable pub name_of : List ℕ → Name
 name_of bs = cut_name (min name_limit (length bs)) (min-le_left name_limit (length bs)) bs
 
--- the name made from the bytes, which are not too many: reading its bytes gives them back, and it is the only name with these bytes
+-- the name made from the bytes: reading its bytes gives them back
 pub record MadeFrom (bs : List ℕ) (n : Name) : Type 0 where
-  pub few : length bs ≤ name_limit
   pub bytes : bytes_of n ≡ bs
   pub name : n ≡ name_of bs
-  pub only : (m : Name) → bytes_of m ≡ bs → m ≡ n
   pub kept : bytes_of n ≡ kept_name bs
+
+-- the bytes are not too many, and no other name has them
+pub record OnlyName (bs : List ℕ) (n : Name) : Type 0 where
+  pub few : length bs ≤ name_limit
+  pub only : (m : Name) → bytes_of m ≡ bs → m ≡ n
 
 -- names are equal when their bytes are
 abbrev pub same_name : Name → Name → Bool
@@ -67,7 +70,7 @@ same_name a b = bytes_eq (bytes_of a) (bytes_of b)
 abbrev pub EqualByBytes : Type 0
 EqualByBytes = (a b : Name) → (same_name a b ≡ true) ↔ (bytes_of a ≡ bytes_of b)
 
--- the number of the refusal
+-- The number of the refusal
 abbrev pub number : NameRefusal → ℕ
 number TooLong = 36
 

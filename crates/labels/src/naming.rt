@@ -1,9 +1,9 @@
 // Making names, reading their bytes back, and comparing them.
-ghost use Rattle.std.specs.Prelude.{◌≡◌, ◌-◌, ◌^◌, ◌<◌, ◌≤◌, min, [], length, Some, MatchResult};
+ghost use Rattle.std.specs.Prelude.{◌≡◌, ◌-◌, ◌^◌, ◌<◌, ◌≤◌, min, [], length, Some, IfOk, MatchResult};
 ghost use Rattle.std.specs.List.{slice_get};
 ghost use Rattle.std.specs.Str.{bytes_eq};
 ghost use Rattle.labels.specs.Words.{word_at_place};
-ghost use Rattle.labels.specs.Names.{fixed, bytes_of, same_name, MadeFrom, Refused, number};
+ghost use Rattle.labels.specs.Names.{fixed, bytes_of, MadeFrom, OnlyName, Refused, number};
 ghost use Rattle.labels.specs.NameLaws.{same_self, same_back, same_on};
 ghost use Rattle.std.proofs.Common.{rules, arith};
 
@@ -50,7 +50,8 @@ impl Name {
 
     // The name of these bytes, unless they are too many.
     pub fn from_bytes(bytes: &[u8]) -> Result<Name, NameRefusal>
-        ensures { MatchResult result (MadeFrom bytes.now) (Refused bytes.now) }
+        ensures made { MatchResult result (MadeFrom bytes.now) (Refused bytes.now) }
+        ensures only { IfOk result (OnlyName bytes.now) }
     {
         let len = bytes.len();
         if len > NAME_LIMIT {
@@ -126,13 +127,13 @@ fn byte_at(name: &Name, at: usize) -> u8
 
 // Whether the two names have the same bytes.
 fn same_bytes(a: &Name, b: &Name) -> bool
-    ensures { result ≡ same_name a.now b.now }
+    ensures { result ≡ bytes_eq (bytes_of a.now) (bytes_of b.now) }
 {
     *a == *b
 }
 
 impl LabelKind for Name {
-    ghost same = { same_name };
+    ghost same = { λ a b. bytes_eq (bytes_of a) (bytes_of b) };
 
     ghost reflexive = { λ a. same_self (bytes_of a) };
 

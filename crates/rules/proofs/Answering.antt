@@ -3,15 +3,16 @@ use Rattle.std.proofs.Common.{◌≡◌, ℕ, ◌≤◌, ◌⊎◌, List, [], �
 use Rattle.rules.specs.declared.syntax.Token.{Token}
 use Rattle.rules.specs.declared.syntax.ParsedNode.{ParsedNode}
 use Rattle.rules.specs.declared.refusal.TextRefusal.{TextRefusal}
+use Rattle.rules.specs.declared.refusal.TextRefusal.TheVariants.{ShortList, Length, NotAllowed, LongName, ManyTests, DeepBracket}
 use Rattle.rules.specs.Grammar.{Text}
-use Rattle.rules.specs.Reading.{Refused, Offends, ComesBefore, same, allowed_first, tests_before_name, tests_before_bracket, name_before_bracket}
+use Rattle.rules.specs.Reading.{Refused, Offends, ComesBefore, same, allowed_first, tests_first}
 use Rattle.rules.specs.Refusals.{number, place}
 use Rattle.rules.specs.Answer.{Unfit, Gives, gives, IsRefused, unfit, refused}
-use Rattle.rules.specs.Naming.{Readable, Reason, short_list, by_text}
+use Rattle.rules.specs.Naming.{Readable, Reason, ReasonFor, OneAnswer, short_list, by_text}
 use Rattle.rules.specs.Exact.{Sole}
 use Rattle.rules.proofs.Sole.{sole}
 use Rattle.rules.proofs.Machine.{complete}
-use Rattle.rules.specs.Machine.{start, ended, to, accepts, lex, run}
+use Rattle.rules.specs.Machine.{start, ended, to, accepts, refuses, lex, run}
 use Rattle.rules.specs.Readers.{told}
 use Rattle.rules.proofs.Judged.{Right, answered}
 use Rattle.rules.proofs.Words.{lexes, unique}
@@ -21,8 +22,16 @@ pub fit : (bs : List ℕ) → (length bs ≡ 0 → ⊥) → length bs ≤ text_l
 fit bs some few (inl h) = some h
 fit bs some few (inr h) = omega arith
 
+told_is : (f : TextRefusal) → told f ≡ refuses (number f) (place f)
+told_is ShortList = refl
+told_is Length = refl
+told_is (NotAllowed p) = refl
+told_is (LongName p) = refl
+told_is (ManyTests p) = refl
+told_is (DeepBracket p) = refl
+
 pub turns_away : (bs : List ℕ) (f : TextRefusal) → (Unfit bs → ⊥) → run (lex 0 0 bs) start ≡ told f → IsRefused bs (number f) (place f)
-turns_away bs f fits e = refused fits (lexes bs) (subst (Right (lex 0 0 bs)) e (answered (lex 0 0 bs)))
+turns_away bs f fits e = refused fits (lexes bs) (subst (Right (lex 0 0 bs)) (e ∙ told_is f) (answered (lex 0 0 bs)))
 
 pub accepting : (bs : List ℕ) (ns : List ParsedNode) → (Unfit bs → ⊥) → run (lex 0 0 bs) start ≡ accepts ns → Gives bs ns
 accepting bs ns fits e = gives fits (lexes bs) (subst (Right (lex 0 0 bs)) e (answered (lex 0 0 bs)))
@@ -55,12 +64,10 @@ two_splits (x ∷ a) (y ∷ c) t u b d q =
       | inr (inr h) ↦ inr (inr (h.0, let p = h.1 in cc))
     ]
 
-first_of : {k j : ℕ} → ComesBefore k j → (k ≡ j) ⊎ ((k ≡ 11) ⊎ (((k ≡ 13) × ((j ≡ 12) ⊎ (j ≡ 14))) ⊎ ((k ≡ 12) × (j ≡ 14))))
+first_of : {k j : ℕ} → ComesBefore k j → (k ≡ j) ⊎ ((k ≡ 11) ⊎ ((k ≡ 13) × (j ≡ 12)))
 first_of same = inl refl
 first_of allowed_first = inr (inl refl)
-first_of tests_before_name = inr (inr (inl (refl, inl refl)))
-first_of tests_before_bracket = inr (inr (inl (refl, inr refl)))
-first_of name_before_bracket = inr (inr (inr (refl, refl)))
+first_of tests_first = inr (inr (refl, refl))
 
 one_number : (k j : ℕ) → ComesBefore k j → ComesBefore j k → k ≡ j
 one_number k j x y = let p = first_of x in let q = first_of y in omega arith
@@ -83,24 +90,27 @@ turned_same (refused f l r) (unfit v) = absurd (f v)
 turned_same (refused {ts = ts} {k = k} {p = p} f l r) (refused {ts = us} {k = j} {p = q} g m s) =
     refused_same (subst (λ x. Refused x k p) (unique l ∙ sym (unique m)) r) s
 
+pub one_answer : OneAnswer
+one_answer = record { nodes_same = gives_same; not_both = never_both; refusal_same = turned_same }
+
 ------------------------------------------------------------------------
 -- and so has its reading
 
-reason_same : {bs : List ℕ} {n : ℕ} {x y : ℕ × ℕ} → Reason bs n x → Reason bs n y → x ≡ y
-reason_same (short_list h) (short_list i) = refl
+reason_same : {bs : List ℕ} {n k p j q : ℕ} → Reason bs n k p → Reason bs n j q → (k ≡ j) × (p ≡ q)
+reason_same (short_list h) (short_list i) = (refl, refl)
 reason_same (short_list h) (by_text i r) = absurd (omega arith)
 reason_same (by_text h r) (short_list i) = absurd (omega arith)
-reason_same (by_text h r) (by_text i s) = let e = turned_same r s in λ j. (e.0 j, e.1 j)
+reason_same (by_text h r) (by_text i s) = turned_same r s
 
 read_same : {bs : List ℕ} {n : ℕ} {ns ms : List ParsedNode} → Readable bs n ns → Readable bs n ms → ns ≡ ms
 read_same g h = gives_same g.given h.given
 
-read_or_not : {bs : List ℕ} {n : ℕ} {ns : List ParsedNode} {x : ℕ × ℕ} → Readable bs n ns → Reason bs n x → ⊥
+read_or_not : {bs : List ℕ} {n : ℕ} {ns : List ParsedNode} {k p : ℕ} → Readable bs n ns → Reason bs n k p → ⊥
 read_or_not g (short_list h) = let few = g.enough in omega arith
 read_or_not g (by_text h r) = never_both g.given r
 
-pub read_sole : {bs : List ℕ} {n : ℕ} {ns : List ParsedNode} → Readable bs n ns → Sole (Readable bs n) (Reason bs n) ns
+pub read_sole : {bs : List ℕ} {n : ℕ} {ns : List ParsedNode} → Readable bs n ns → Sole (Readable bs n) (ReasonFor bs n) ns
 read_sole g = sole (λ y z. read_same) (λ y z. read_or_not) g
 
-pub unread_sole : {bs : List ℕ} {n : ℕ} {x : ℕ × ℕ} → Reason bs n x → Sole (Reason bs n) (Readable bs n) x
-unread_sole r = sole (λ y z. reason_same) (λ y z q g. read_or_not g q) r
+pub unread_sole : {bs : List ℕ} {n k p : ℕ} → Reason bs n k p → Sole (ReasonFor bs n) (Readable bs n) (k, p)
+unread_sole r = sole (λ y z g h. let e = reason_same g h in λ j. (e.0 j, e.1 j)) (λ y z q g. read_or_not g q) r

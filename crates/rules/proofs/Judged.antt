@@ -7,7 +7,7 @@ use Rattle.rules.specs.declared.syntax.Kind.TheVariants.{DoubleSlash, Slash, Dot
 use Rattle.rules.specs.declared.syntax.Token.{Token}
 use Rattle.rules.specs.declared.syntax.ParsedNode.{ParsedNode}
 use Rattle.rules.specs.Grammar.{Test, name, star, Begins}
-use Rattle.rules.specs.Reading.{is_test, is_open, is_close, count, Offends, not_allowed, many_tests, long_name, deep_bracket, Clear, ComesBefore, same, allowed_first, tests_before_name, Accepted, Refused}
+use Rattle.rules.specs.Reading.{is_test, is_open, is_close, count, Offends, not_allowed, many_tests, long_name, deep_bracket, Clear, ComesBefore, same, allowed_first, tests_first, Accepted, Refused}
 use Rattle.rules.specs.Machine.{State, start, root, after, opened, dotted, below, more, ended, Moved, to, stuck, on_double, on_test, on_path, on_after, move, moves, Answer, accepts, refuses, unfinished, nodes, depth, over, go, excess, run}
 use Rattle.rules.proofs.Machine.{sound, begins, begins_not, moves_append, no_move}
 use Rattle.labels.specs.Spelling.{name_limit}
@@ -139,7 +139,7 @@ module _ (before : List Token) (t : Token) (s : State) (tally : Tally before s) 
   first_tests : Begins (before ++ (t ∷ [])) → Test t → (j : ℕ) → Offends before t j → ComesBefore 13 j
   first_tests b q j (not_allowed h) = absurd (h b)
   first_tests b q j (many_tests r h) = same
-  first_tests b q j (long_name r h) = tests_before_name
+  first_tests b q j (long_name r h) = tests_first
   first_tests b (name q) j (deep_bracket r h) = name_open t.kind q r
   first_tests b (star q) j (deep_bracket r h) = star_open t.kind q r
 
@@ -241,7 +241,6 @@ next t ts before s h ih stuck e x q =
       rest = ts;
       splits = refl;
       place = refl;
-      begun = begins before s h.moved;
       clear = h.clear;
       offends = not_allowed (begins_not _ (moved_one before t s h.moved ∙ e));
       foremost = λ j o. allowed_first;
@@ -264,7 +263,6 @@ next t ts before s h ih (to u) e (suc k) q =
       rest = ts;
       splits = refl;
       place = refl;
-      begun = begins before s h.moved;
       clear = h.clear;
       offends = w.offends;
       foremost = w.foremost;

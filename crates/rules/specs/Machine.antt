@@ -9,8 +9,6 @@ use Rattle.rules.specs.declared.node.Edge.TheVariants.{Child, Descendant}
 use Rattle.rules.specs.declared.syntax.ParsedNode.{ParsedNode}
 use Rattle.rules.specs.Grammar.{node}
 use Rattle.labels.specs.Spelling.{white, starts, inside}
-use Rattle.labels.specs.Spelling.{name_limit}
-use Rattle.rules.specs.Limits.{node_limit, bracket_limit}
 
 -- What was read last. n is the step to which what follows belongs, outer are the steps with open
 -- predicates, ns the rule nodes so far.
@@ -126,10 +124,10 @@ abbrev pub over : Kind → ℕ → ℕ → ℕ → ℕ
 over DoubleSlash long tests deep = 0
 over Slash long tests deep = 0
 over Dot long tests deep = 0
-over Open long tests deep = cond (nat_le bracket_limit deep) 14 0
+over Open long tests deep = cond (nat_le 16 deep) 14 0
 over Close long tests deep = 0
-over Star long tests deep = cond (nat_le node_limit tests) 13 0
-over Name long tests deep = cond (nat_le node_limit tests) 13 (cond (nat_lt name_limit long) 12 0)
+over Star long tests deep = cond (nat_le 64 tests) 13 0
+over Name long tests deep = cond (nat_le 64 tests) 13 (cond (nat_lt 32 long) 12 0)
 over Stray long tests deep = 0
 over End long tests deep = 0
 

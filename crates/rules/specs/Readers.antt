@@ -7,15 +7,18 @@ use Rattle.rules.specs.declared.node.Edge.{Edge}
 use Rattle.rules.specs.declared.node.Edge.TheVariants.{Child, Descendant}
 use Rattle.rules.specs.declared.syntax.ParsedNode.{ParsedNode}
 use Rattle.rules.specs.declared.refusal.TextRefusal.{TextRefusal}
+use Rattle.rules.specs.declared.refusal.TextRefusal.TheVariants.{ShortList, Length, NotAllowed, LongName, ManyTests, DeepBracket}
 use Rattle.rules.specs.declared.reader.Reader.{Reader}
 use Rattle.std.specs.List.{AllByRecursion}
 use Rattle.rules.specs.Machine.{State, start, after, opened, below, more, Answer, accepts, refuses, on_test, with_node, move, nodes, run, from, Next}
-use Rattle.labels.specs.Spelling.{name_limit}
-use Rattle.rules.specs.Limits.{node_limit, bracket_limit}
-use Rattle.rules.specs.Refusals.{number, place}
 
 abbrev pub told : TextRefusal → Answer
-told f = refuses (number f) (place f)
+told ShortList = refuses 17 0
+told Length = refuses 10 0
+told (NotAllowed p) = refuses 11 p
+told (LongName p) = refuses 12 p
+told (ManyTests p) = refuses 13 p
+told (DeepBracket p) = refuses 14 p
 
 abbrev pub bytes : Reader → List ℕ
 bytes r = r.text.now
@@ -29,13 +32,13 @@ made r = take r.count r.nodes
 
 -- the test of a rule node stands in the bytes, and a name is not too long
 abbrev pub Lies : List ℕ → ParsedNode → Type 0
-Lies bs n = (n.test.place + n.test.len ≤ length bs) × (n.test.kind ≡ Name → n.test.len ≤ name_limit)
+Lies bs n = (n.test.place + n.test.len ≤ length bs) × (n.test.kind ≡ Name → n.test.len ≤ 32)
 
 pub record Sound (r : Reader) : Type 0 where
   pub lies : AllByRecursion (Lies (bytes r)) (made r)
   pub within : r.at ≤ length (bytes r)
-  pub few : r.count ≤ node_limit
-  pub room : length r.nodes ≡ node_limit
+  pub few : r.count ≤ 64
+  pub room : length r.nodes ≡ 64
 
 abbrev pub Upcoming : Reader → Token → Type 0
 Upcoming r t = Next (bytes r) r.at t
@@ -117,7 +120,7 @@ pub record Unjoined (e x : Reader) : Type 0 where
 
 -- the brackets that may still be opened are `room`
 abbrev pub Room : List ℕ → ℕ → Type 0
-Room outer room = length outer + room ≡ bracket_limit
+Room outer room = length outer + room ≡ 16
 
 pub record StepRead (e x : Reader) (test : Token) (p : ℕ) (edge : Edge) (room n : ℕ) : Type 0 where
   pub kept : Kept e x

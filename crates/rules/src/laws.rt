@@ -1,11 +1,33 @@
-// What is proved of the meaning of rule texts.
+// What is proved of rule texts and their meaning.
 ghost use Rattle.rules.specs.Expression.{PlainReadings};
+ghost use Rattle.rules.specs.Naming.{OneAnswer, ParentsFirst, TextsSelect};
 
 use labels::kind::NameLabel;
 
 // `.//` leads to the proper descendants, and `//` at the front to every node of the listing.
 pub fn readings_are_plain<N: NameLabel>() -> u8
     ensures { PlainReadings N.spelled N.alike }
+{
+    0
+}
+
+// A text has one answer.
+pub fn texts_have_one_answer() -> u8
+    ensures { OneAnswer }
+{
+    0
+}
+
+// In the rule nodes of a text each parent is numbered below its child.
+pub fn parents_come_first() -> u8
+    ensures { ParentsFirst }
+{
+    0
+}
+
+// As an expression a text selects the nodes at which its rule occurs, whatever list has its names.
+pub fn texts_select_their_rules<N: NameLabel>() -> u8
+    ensures { TextsSelect N N.LabelKind.same N.spelled N.alike }
 {
     0
 }

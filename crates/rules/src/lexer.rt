@@ -2,7 +2,6 @@
 ghost use Rattle.std.specs.Prelude.{◌≡◌, ◌<◌, ◌≤◌, false, length, MatchOption, slice_index};
 ghost use Rattle.labels.specs.Spelling.{white, starts, byte, Named};
 ghost use Rattle.rules.specs.Machine.{mark, Next};
-ghost use Rattle.rules.specs.declared.syntax.Kind.TheVariants.{End};
 
 use crate::syntax::{Kind, Token};
 use labels::spelling::{NoName, name_end, white_end};
@@ -67,10 +66,10 @@ fn token_at(text: &[u8], place: usize) -> Token
     }
 }
 
-// The first token from `at` on; at the end of the text, and past it, it is the end.
-pub(crate) fn next_token(text: &[u8], at: usize) -> Token
-    ensures first { at ≤ length text.now → Next text.now at result }
-    ensures past { length text.now < at → result.kind ≡ End }
+// The first token from `at` on; at the end of the text it is the end.
+pub fn next_token(text: &[u8], at: usize) -> Token
+    requires { at ≤ length text.now }
+    ensures { Next text.now at result }
 {
     let place = white_end(text, at);
     if place < text.len() {

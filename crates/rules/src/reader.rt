@@ -208,8 +208,8 @@ fn parse_sized(text: &[u8]) -> Result<Parsed, TextRefusal>
 }
 
 // The rule nodes of a rule text.
-pub(crate) fn parse(text: &[u8]) -> Result<Parsed, TextRefusal>
-    ensures { MatchResult result (Parses text.now) (ParseFails text.now) }
+pub fn parse(text: &[u8]) -> Result<Parsed, TextRefusal>
+    ensures { MatchResult result (λ p. Parses text.now p) (λ f. ParseFails text.now f) }
 {
     if text.len() == 0 || text.len() > TEXT_LIMIT {
         return Err(TextRefusal::Length);

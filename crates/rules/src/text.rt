@@ -2,11 +2,11 @@
 ghost use Rattle.std.specs.Prelude.{◌≡◌, ◌<◌, ◌≤◌, length, MatchResult};
 ghost use Rattle.std.specs.List.{AllByRecursion};
 ghost use Rattle.rules.specs.Readers.{Lies};
-ghost use Rattle.rules.specs.Limits.{node_limit};
 ghost use Rattle.rules.specs.Rule.{Rooted, Ordered};
 ghost use Rattle.rules.specs.Nodes.{rule_nodes};
 ghost use Rattle.rules.specs.Expression.{is_star, rule_nodes_of};
-ghost use Rattle.rules.specs.Naming.{NamesIn, ReadInto, Unreadable, Unread};
+ghost use Rattle.rules.specs.Naming.{NamesIn, ReadInto, Reason, Unread, OnlyRule, Unreadable};
+ghost use Rattle.rules.specs.Refusals.{number, place};
 
 use crate::node::{Edge, RuleNode};
 use crate::reader::parse;
@@ -28,7 +28,7 @@ fn is_any(kind: Kind) -> bool
 // The rule with these rule nodes.
 fn rule_of(nodes: &[ParsedNode]) -> Rule
     requires some { 0 < length nodes.now }
-    requires few { length nodes.now ≤ node_limit }
+    requires few { length nodes.now ≤ 64 }
     requires rooted { Rooted (rule_nodes_of nodes.now) }
     requires ordered { Ordered (rule_nodes_of nodes.now) }
     ensures { rule_nodes result ≡ rule_nodes_of nodes.now }
@@ -73,7 +73,8 @@ fn write_names<N: NameLabel>(text: &[u8], nodes: &[ParsedNode], names: &mut [N])
 
 // The rule of a rule text; the names of its named rule nodes go into `names` at their numbers.
 fn read<N: NameLabel>(text: &[u8], names: &mut [N]) -> Result<Rule, TextRefusal>
-    ensures { MatchResult result (λ rule. ReadInto N.LabelKind.same N.spelled N.alike text.now rule names.old names.new) (λ f. Unreadable text.now (length names.old) f × (names.new ≡ names.old)) }
+    ensures read { MatchResult result (λ rule. ReadInto N.LabelKind.same N.spelled N.alike text.now rule names.old names.new) (λ f. Reason text.now (length names.old) (number f) (place f) × (names.new ≡ names.old)) }
+    ensures only { MatchResult result (OnlyRule text.now (length names.old)) (Unreadable text.now (length names.old)) }
 {
     if names.len() < RULE_NODES {
         return Err(TextRefusal::ShortList);
@@ -92,7 +93,8 @@ impl Rule {
         text: &[u8],
         names: &mut [N],
     ) -> Result<(), TextRefusal>
-        ensures { MatchResult result (λ _. ReadInto N.LabelKind.same N.spelled N.alike text.now self.new names.old names.new) (λ f. Unread text.now f self.old self.new names.old names.new) }
+        ensures read { MatchResult result (λ _. ReadInto N.LabelKind.same N.spelled N.alike text.now self.new names.old names.new) (λ f. Unread text.now f self.old self.new names.old names.new) }
+        ensures only { MatchResult result (λ _. OnlyRule text.now (length names.old) self.new) (Unreadable text.now (length names.old)) }
     {
         *self = read(text, names)?;
         Ok(())

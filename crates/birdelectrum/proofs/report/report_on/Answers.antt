@@ -17,13 +17,13 @@ pub returns-in-Err : goal.returns-in-Err
 returns-in-Err c = record {
   fits = omega arith;
   reports = rule_refused c.args.input.now c.line_end-end.result (c.line_end-end.result - 0) c.number.result c.place.result
-      c.in-Err.ensures (omega arith) c.if-input-gt-INPUT.false c.line_end-end.ensures (omega arith) c.number.ensures c.place.ensures;
+      c.in-Err.ensures.read (omega arith) c.if-input-gt-INPUT.false c.line_end-end.ensures (omega arith) c.number.ensures c.place.ensures;
 }
 
 pub returns : goal.returns
 returns c = record {
   fits = c.feed.ensures;
-  reports = let read = c.in_default.ensures in
+  reports = let read = c.in_default.ensures.read in
       rule_read c.args.input.now c.line_end-end.result (c.line_end-end.result - 0) read.nodes c.feed.result
-      read.read.holds.given c.if-input-gt-INPUT.false c.line_end-end.ensures (omega arith);
+      read.given c.if-input-gt-INPUT.false c.line_end-end.ensures (omega arith);
 }

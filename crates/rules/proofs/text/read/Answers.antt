@@ -9,19 +9,21 @@ use Rattle.rules.specs.Parsing.{Parses}
 use Rattle.rules.specs.Rule.{Rooted, Ordered}
 use Rattle.rules.specs.Nodes.{rule_nodes}
 use Rattle.rules.specs.Expression.{rule_nodes_of, SelectsAlike}
-use Rattle.rules.specs.Naming.{NamesIn, Readable, short_list, by_text}
+use Rattle.rules.specs.Naming.{NamesIn, Readable, Reason, short_list, by_text}
 use Rattle.rules.proofs.Formed.{given_some, given_rooted, given_ordered}
 use Rattle.rules.proofs.Answering.{read_sole, unread_sole}
 use Rattle.rules.proofs.Listed.{texts_select}
 use Rattle.rules.proofs.text.read.Goals as goal
 
 pub returns-then-names-lt-RULE_NODES : goal.returns-then-names-lt-RULE_NODES
-returns-then-names-lt-RULE_NODES g c = (unread_sole (short_list c.if-names-lt-RULE_NODES.true), refl)
+returns-then-names-lt-RULE_NODES g c =
+    let r : Reason c.args.text.now (length c.args.names.now) 17 0 = short_list c.if-names-lt-RULE_NODES.true in
+    record { read = (r, refl); only = unread_sole r }
 
 pub returns-in_err-parsed : goal.returns-in_err-parsed
 returns-in_err-parsed g c =
     let p = err_from_is_err_and c.from_residual.result c.from_residual.ensures.1 in
-    rw (p.1, p.2) (unread_sole (by_text c.if-names-lt-RULE_NODES.false c.in_err-parsed.ensures), refl)
+    rw (p.1, p.2) (let r = by_text c.if-names-lt-RULE_NODES.false c.in_err-parsed.ensures in record { read = (r, refl); only = unread_sole r })
 
 -- what the rule nodes of a text are
 forms : (bs : List ℕ) (p : Parsed) (n : ℕ) → Parses bs p → n ≡ p.count
@@ -51,11 +53,15 @@ returns g c =
     let r = texts_select g.row.N.Denot g.N.LabelKind.same g.N.NameLabel.spelled g.N.NameLabel.alike g.met.N.NameLabel.tied bs ns c.args.names.now c.write_names.new.names f.0 names in
     let read : Readable bs (length c.args.names.now) ns = record { enough = c.if-names-lt-RULE_NODES.false; given = f.0 } in
     record {
-      nodes = ns;
-      read = read_sole read;
-      rule_is = made;
-      names = names;
-      expression = r.0.0;
-      stands = r.0.1;
-      selects = subst (λ (rs : List RuleNode). SelectsAlike g.N.LabelKind.same g.N.NameLabel.spelled g.N.NameLabel.alike bs rs c.write_names.new.names) (sym made) r.1;
+      read = record {
+        enough = c.if-names-lt-RULE_NODES.false;
+        nodes = ns;
+        given = f.0;
+        rule_is = made;
+        names = names;
+        expression = r.0.0;
+        stands = r.0.1;
+        selects = subst (λ (rs : List RuleNode). SelectsAlike g.N.LabelKind.same g.N.NameLabel.spelled g.N.NameLabel.alike bs rs c.write_names.new.names) (sym made) r.1;
+      };
+      only = record { nodes = ns; rule_is = made; read = read_sole read };
     }
