@@ -12,6 +12,7 @@ token = re.compile(r"(?<![A-Za-z0-9_'₁₂-])" + name + r"(?![A-Za-z0-9_'₁₂
 
 # Names that would fall together with another one.
 special = {
+    "Parents-first": "TextParentsFirst",
     "Stands-for": "TextStandsFor",
     "bit-and": "bit_of_and",
     "bit-or": "bit_of_or",

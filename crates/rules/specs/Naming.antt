@@ -69,8 +69,8 @@ pub record OneAnswer : Type 0 where
   pub refusal_same : {bs : List ℕ} {k p j q : ℕ} → IsRefused bs k p → IsRefused bs j q → (k ≡ j) × (p ≡ q)
 
 -- each parent is numbered below its child
-abbrev pub ParentsFirst : Type 0
-ParentsFirst = (bs : List ℕ) (ns : List ParsedNode) → Gives bs ns → (i : ℕ) (d : ParsedNode) → 0 < i → i < length ns → (slice_index_or ns i d).parent < i
+abbrev pub TextParentsFirst : Type 0
+TextParentsFirst = (bs : List ℕ) (ns : List ParsedNode) → Gives bs ns → (i : ℕ) (d : ParsedNode) → 0 < i → i < length ns → (slice_index_or ns i d).parent < i
 
 -- A rule text with the rule nodes that it gives, and their names in a list of labels.
 abbrev pub TextsSelect : (L : Type 0) → (L → L → Bool) → (L → List ℕ) → (List ℕ → List ℕ → Bool) → Type 0

@@ -1,6 +1,6 @@
 // What is proved of rule texts and their meaning.
 ghost use Rattle.rules.specs.Expression.{PlainReadings};
-ghost use Rattle.rules.specs.Naming.{OneAnswer, ParentsFirst, TextsSelect};
+ghost use Rattle.rules.specs.Naming.{OneAnswer, TextParentsFirst, TextsSelect};
 
 use labels::kind::NameLabel;
 
@@ -20,7 +20,7 @@ pub fn texts_have_one_answer() -> u8
 
 // In the rule nodes of a text each parent is numbered below its child.
 pub fn parents_come_first() -> u8
-    ensures { ParentsFirst }
+    ensures { TextParentsFirst }
 {
     0
 }
