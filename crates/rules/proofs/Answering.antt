@@ -16,9 +16,8 @@ use Rattle.rules.specs.Machine.{start, ended, to, accepts, refuses, lex, run}
 use Rattle.rules.specs.Readers.{told}
 use Rattle.rules.proofs.Judged.{Right, answered}
 use Rattle.rules.proofs.Words.{lexes, unique}
-use Rattle.rules.specs.Limits.{text_limit}
 
-pub fit : (bs : List ℕ) → (length bs ≡ 0 → ⊥) → length bs ≤ text_limit → Unfit bs → ⊥
+pub fit : (bs : List ℕ) → (length bs ≡ 0 → ⊥) → length bs ≤ 1024 → Unfit bs → ⊥
 fit bs some few (inl h) = some h
 fit bs some few (inr h) = omega arith
 

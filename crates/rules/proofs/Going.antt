@@ -14,8 +14,6 @@ use Rattle.rules.specs.declared.node.Edge.TheVariants.{Child}
 use Rattle.rules.specs.Grammar.{node}
 use Rattle.rules.specs.Machine.{State, start, root, after, more, on_double, on_after, refuses, to, stuck, on_test, with_node, nodes, depth, over, excess, go, run, from}
 use Rattle.rules.specs.Readers.{bytes, left, made, Lies, Sound, Upcoming, front, Unopened, Kept, Room, Enters, Noted, first, Begun, Joined, StepRead, StepFails, PathFails, WholeRead, WholeFails}
-use Rattle.labels.specs.Spelling.{name_limit}
-use Rattle.rules.specs.Limits.{node_limit, bracket_limit}
 
 -- the bytes that are not read yet
 abbrev pub unread : Reader → ℕ
@@ -35,9 +33,9 @@ pub record Past (e x : Reader) (t : Token) (n room : ℕ) : Type 0 where
 
 -- a test that passes no limit
 abbrev pub Fair : Token → Type 0
-Fair t = ((t.kind ≡ Name) × (t.len ≤ name_limit)) ⊎ (t.kind ≡ Star)
+Fair t = ((t.kind ≡ Name) × (t.len ≤ 32)) ⊎ (t.kind ≡ Star)
 
-fair_moves : (t : Token) (n deep : ℕ) (s : State) → Fair t → n < node_limit → (on_test t.kind s ≡ to s) × (over t.kind t.len n deep ≡ 0) × (t.kind ≡ End → ⊥)
+fair_moves : (t : Token) (n deep : ℕ) (s : State) → Fair t → n < 64 → (on_test t.kind s ≡ to s) × (over t.kind t.len n deep ≡ 0) × (t.kind ≡ End → ⊥)
 fair_moves t n deep s (inl both) h =
     let (q, short) = both in (
       ap (λ k. on_test k s) q,
@@ -50,7 +48,7 @@ fair_moves t n deep s (inr q) h = (
   λ e. let z : ◌≡◌ {A = ℕ} 0 1 = cc in omega arith,
 )
 
-fair_short : (t : Token) → Fair t → t.kind ≡ Name → t.len ≤ name_limit
+fair_short : (t : Token) → Fair t → t.kind ≡ Name → t.len ≤ 32
 fair_short t (inl h) q = h.1
 fair_short t (inr h) q = let z : ◌≡◌ {A = ℕ} 0 1 = cc in absurd (omega arith)
 
@@ -58,7 +56,7 @@ fair_short t (inr h) q = let z : ◌≡◌ {A = ℕ} 0 1 = cc in absurd (omega a
 abbrev pub noting : Reader → Token → ℕ → Edge → Reader
 noting e t p edge = record { text = e.text; at = t.place + t.len; count = e.count + 1; nodes = set e.nodes e.count (node p edge t) }
 
-pub noted : (e : Reader) (t : Token) (p : ℕ) (edge : Edge) → Sound e → Upcoming e t → e.count < node_limit → Fair t → Noted e (noting e t p edge) t p edge e.count
+pub noted : (e : Reader) (t : Token) (p : ℕ) (edge : Edge) → Sound e → Upcoming e t → e.count < 64 → Fair t → Noted e (noting e t p edge) t p edge e.count
 noted e t p edge sound up few fair =
     let long : length (made e) ≡ e.count = length-take-le e.count e.nodes (omega (arith, sound.room)) in
     let real = (fair_moves t 0 0 (with_node p edge [] [] t) fair (omega arith)).2 in
@@ -69,7 +67,7 @@ noted e t p edge sound up few fair =
       kept = record { same = refl; on = omega (arith, up.late); sound = record { lies = subst (AllByRecursion (Lies (bytes e))) (sym grown) (all_by_recursion_push (Lies (bytes e)) (made e) (node p edge t) sound.lies (up.within, fair_short t fair)); within = up.within; few = omega arith; room = length-set e.nodes e.count _ ∙ sound.room } };
       further = omega (arith, up.late);
       leads = λ outer s en.
-          let size : length (nodes s) < node_limit = omega (arith, ap length en.nodes_are, long) in
+          let size : length (nodes s) < 64 = omega (arith, ap length en.nodes_are, long) in
           let (passes, small, _) = fair_moves t (length (nodes s)) (depth s) (with_node p edge outer (made e) t) fair size in
           ap (λ ts. run ts s) (up.on real)
           ∙ ap (λ m. go m (excess s t) t.place (λ u. run (from (bytes e) (t.place + t.len)) u)) (en.moves_on ∙ passes)
@@ -116,10 +114,10 @@ module _ (e : Reader) (d test : Token) (new : e.count ≡ 0) (up : Upcoming e d)
       let none = none_made e new in
       record { nodes_are = sym none; moves_on = ap (λ ns. on_test test.kind (with_node 0 Child [] ns test)) (sym none) }
 
-  pub step_fails : (f : TextRefusal) → StepFails (passing e d) test 0 Child bracket_limit f → WholeFails e f
+  pub step_fails : (f : TextRefusal) → StepFails (passing e d) test 0 Child 16 f → WholeFails e f
   step_fails f s = to_root ∙ s [] root refl at_root
 
-  module _ (x : Reader) (n : ℕ) (s : StepRead (passing e d) x test 0 Child bracket_limit n) (t : Token) (last : Upcoming x t) where
+  module _ (x : Reader) (n : ℕ) (s : StepRead (passing e d) x test 0 Child 16 n) (t : Token) (last : Upcoming x t) where
     pub whole_read : t.kind ≡ End → WholeRead e x
     whole_read end =
         record {

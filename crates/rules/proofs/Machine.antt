@@ -189,13 +189,13 @@ add_further : {n k : ℕ} {e : Edge} {outer : List ℕ} {ns fs : List ParsedNode
 add_further h r = goes none (further h r.steps_on r.furthers_on) r.closing r.goes_on
 
 -- the kinds that may stand behind a step
-data Goes_on (t : Token) (n : ℕ) (ns : List ParsedNode) (ts : List Token) (f : State) : List ℕ → Type 0 where
-  by_open : {outer : List ℕ} → t.kind ≡ Open → moves ts (to (opened n outer ns)) ≡ to f → Goes_on t n ns ts f outer
-  by_close : {k : ℕ} {outer : List ℕ} → t.kind ≡ Close → moves ts (to (after k outer ns)) ≡ to f → Goes_on t n ns ts f (k ∷ outer)
-  by_between : {e : Edge} {k : ℕ} {outer : List ℕ} → Between t e → moves ts (to (more e n k outer ns)) ≡ to f → Goes_on t n ns ts f (k ∷ outer)
-  by_end : t.kind ≡ End → moves ts (to (ended ns)) ≡ to f → Goes_on t n ns ts f []
+data GoesOn (t : Token) (n : ℕ) (ns : List ParsedNode) (ts : List Token) (f : State) : List ℕ → Type 0 where
+  by_open : {outer : List ℕ} → t.kind ≡ Open → moves ts (to (opened n outer ns)) ≡ to f → GoesOn t n ns ts f outer
+  by_close : {k : ℕ} {outer : List ℕ} → t.kind ≡ Close → moves ts (to (after k outer ns)) ≡ to f → GoesOn t n ns ts f (k ∷ outer)
+  by_between : {e : Edge} {k : ℕ} {outer : List ℕ} → Between t e → moves ts (to (more e n k outer ns)) ≡ to f → GoesOn t n ns ts f (k ∷ outer)
+  by_end : t.kind ≡ End → moves ts (to (ended ns)) ≡ to f → GoesOn t n ns ts f []
 
-after_only : (t : Token) (k : Kind) → t.kind ≡ k → (n : ℕ) (outer : List ℕ) (ns : List ParsedNode) (ts : List Token) (f : State) → moves ts (on_after k n outer ns) ≡ to f → Goes_on t n ns ts f outer
+after_only : (t : Token) (k : Kind) → t.kind ≡ k → (n : ℕ) (outer : List ℕ) (ns : List ParsedNode) (ts : List Token) (f : State) → moves ts (on_after k n outer ns) ≡ to f → GoesOn t n ns ts f outer
 after_only t DoubleSlash h n [] ns ts f e = no_move ts f e
 after_only t DoubleSlash h n (k ∷ outer) ns ts f e = by_between (double_slash h) e
 after_only t Slash h n [] ns ts f e = no_move ts f e
@@ -213,7 +213,7 @@ after_only t End h n (k ∷ outer) ns ts f e = no_move ts f e
 -- how the grammar goes on behind a step, by what is read next and what goes on behind that
 glue : (t : Token) (n : ℕ) (outer : List ℕ) (ns : List ParsedNode) (ts : List Token) (fs : List ParsedNode)
     → ((s : State) → moves ts (to s) ≡ to (ended fs) → Completes s ts fs)
-    → Goes_on t n ns ts (ended fs) outer → After n outer ns (t ∷ ts) fs
+    → GoesOn t n ns ts (ended fs) outer → After n outer ns (t ∷ ts) fs
 glue t n outer ns ts fs ih (by_open h e) = add_predicate h (ih _ e)
 glue t n outer ns ts fs ih (by_close h e) = goes none last h (ih _ e)
 glue t n outer ns ts fs ih (by_between h e) = add_further h (ih _ e)

@@ -10,6 +10,7 @@ use Rattle.rules.specs.Expression.{rule_nodes_of, TextStandsFor, SelectsAlike}
 use Rattle.rules.specs.Refusals.{number, place}
 use Rattle.rules.specs.Exact.{Sole}
 use Rattle.rules.specs.Answer.{Gives, IsRefused}
+use Rattle.rules.specs.Limits.{node_limit}
 
 -- the bytes of a rule node's test
 abbrev pub spelling : List ℕ → ParsedNode → List ℕ
@@ -45,7 +46,7 @@ pub record Unread {N : Type 0} (bs : List ℕ) (f : TextRefusal) (rule rule' : R
 
 -- Reading the text bs with so many entries for names gives the rule nodes ns.
 pub record Readable (bs : List ℕ) (entries : ℕ) (ns : List ParsedNode) : Type 0 where
-  pub enough : 64 ≤ entries
+  pub enough : node_limit ≤ entries
   pub given : Gives bs ns
 
 -- a reason to refuse it, by its number and place

@@ -79,3 +79,7 @@ pub record Refused (ts : List Token) (k p : ℕ) : Type 0 where
   pub clear : Clear before
   pub offends : Offends before at k
   pub foremost : (j : ℕ) → Offends before at j → ComesBefore k j
+
+-- the tokens before the first that offends begin some rule text
+abbrev pub RefusalsFollowBeginnings : Type 0
+RefusalsFollowBeginnings = (ts : List Token) (k p : ℕ) (r : Refused ts k p) → Begins r.before

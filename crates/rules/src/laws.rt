@@ -1,5 +1,6 @@
 // What is proved of rule texts and their meaning.
 ghost use Rattle.rules.specs.Expression.{PlainReadings};
+ghost use Rattle.rules.specs.Reading.{RefusalsFollowBeginnings};
 ghost use Rattle.rules.specs.Naming.{OneAnswer, TextParentsFirst, TextsSelect};
 
 use labels::kind::NameLabel;
@@ -14,6 +15,13 @@ pub fn readings_are_plain<N: NameLabel>() -> u8
 // A text has one answer.
 pub fn texts_have_one_answer() -> u8
     ensures { OneAnswer }
+{
+    0
+}
+
+// Where a text is refused, the tokens before that place begin some rule text.
+pub fn refusals_follow_beginnings() -> u8
+    ensures { RefusalsFollowBeginnings }
 {
     0
 }
