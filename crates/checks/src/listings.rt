@@ -1,5 +1,4 @@
 // Listings and how they end.
-use labels::kind::LabelKind;
 use labels::name::Name;
 use sources::event::Event;
 use sources::source::Source;
@@ -72,7 +71,7 @@ fn looks(rt: HostRuntime) -> Result<(), Fail> {
     let Event::Open(label) = event else {
         return Err(Fail::new("no opening"));
     };
-    assert!(rt; label.equals(&Name::from_bytes(b"ab")?));
+    assert!(rt; label == Name::try_from(b"ab")?);
     assert_eq!(rt; source.look_ahead(), Err(LookFault::Begun));
     Ok(())
 }

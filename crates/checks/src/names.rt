@@ -1,11 +1,10 @@
 // Names at their limits.
 use labels::code::FolderCode;
-use labels::kind::LabelKind;
 use labels::name::{Name, NameRefusal};
 
 // Whether the name of the bytes has these bytes and no more.
 fn reads_back(bytes: &[u8]) -> Result<bool, NameRefusal> {
-    let name = Name::from_bytes(bytes)?;
+    let name = Name::try_from(bytes)?;
     let mut same = name.len() == bytes.len() && name.byte(bytes.len()).is_none();
     for (i, b) in bytes.iter().enumerate() {
         same = same && name.byte(i) == Some(*b);
@@ -31,7 +30,7 @@ fn long_names_are_refused(rt: HostRuntime) {
 
 // Whether the names of the bytes are equal.
 fn equal(a: &[u8], b: &[u8]) -> Result<bool, NameRefusal> {
-    Ok(Name::from_bytes(a)?.equals(&Name::from_bytes(b)?))
+    Ok(Name::try_from(a)? == Name::try_from(b)?)
 }
 
 #[test]
@@ -46,6 +45,6 @@ fn names_are_equal_as_bytes(rt: HostRuntime) {
 
 #[test]
 fn codes_are_equal_as_numbers(rt: HostRuntime) {
-    assert!(rt; FolderCode(7).equals(&FolderCode(7)));
-    assert!(rt; !FolderCode(7).equals(&FolderCode(4294967295)));
+    assert!(rt; FolderCode(7) == FolderCode(7));
+    assert!(rt; FolderCode(7) != FolderCode(4294967295));
 }

@@ -161,19 +161,13 @@ each_equal x y e =
     let s = and_parts _ _ r.1 in
     record { len = eqb-true _ _ p.0; first = eqb-true _ _ q.0; second = eqb-true _ _ r.0; third = eqb-true _ _ s.0; fourth = eqb-true _ _ s.1 }
 
-pub words_told : (x y : Name) (r : Bool) → r ≡ words_eq x y → r ≡ bytes_eq (bytes_of x) (bytes_of y)
-words_told x y true h = same_told x y (each_equal x y (sym h))
-words_told x y false h = other_told x y (λ s. false≢true (h ∙ all_equal x y s))
-
--- equality of bytes
-pub same_self : (bs : List ℕ) → bytes_eq bs bs ≡ true
-same_self bs = (bytes_eq-Decides bs bs).1 refl
-
-pub same_back : (bs cs : List ℕ) → bytes_eq bs cs ≡ true → bytes_eq cs bs ≡ true
-same_back bs cs e = (bytes_eq-Decides cs bs).1 (sym ((bytes_eq-Decides bs cs).0 e))
-
-pub same_on : (bs cs ds : List ℕ) → bytes_eq bs cs ≡ true → bytes_eq cs ds ≡ true → bytes_eq bs ds ≡ true
-same_on bs cs ds e f = (bytes_eq-Decides bs ds).1 ((bytes_eq-Decides bs cs).0 e ∙ (bytes_eq-Decides cs ds).0 f)
+-- comparing the words is comparing the bytes
+pub compared : (x y : Name) → words_eq x y ≡ bytes_eq (bytes_of x) (bytes_of y)
+compared x y = go (words_eq x y) refl
+  where
+    go : (r : Bool) → r ≡ words_eq x y → r ≡ bytes_eq (bytes_of x) (bytes_of y)
+    go true h = same_told x y (each_equal x y (sym h))
+    go false h = other_told x y (λ s. false≢true (h ∙ all_equal x y s))
 
 -- names with the same words are one
 words_one : (x y : Name) → Same x y → x ≡ y

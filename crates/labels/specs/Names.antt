@@ -1,5 +1,5 @@
 -- What a name stands for, and when none is made.
-use Rattle.std.specs.Prelude.{◌≡◌, ℕ, zero, suc, ◌+◌, ◌-◌, ◌*◌, ◌/◌, ◌%◌, ◌^◌, ◌<◌, ◌≤◌, min, Bool, true, ◌↔◌, List, [], ◌∷◌, ◌++◌, length, take, drop}
+use Rattle.std.specs.Prelude.{◌≡◌, ℕ, zero, suc, ◌+◌, ◌-◌, ◌*◌, ◌/◌, ◌%◌, ◌^◌, ◌<◌, ◌≤◌, min, Bool, true, ◌↔◌, IfOk, MatchResult, Result, List, [], ◌∷◌, ◌++◌, length, take, drop}
 use Rattle.std.proofs.Common.{mod-lt, pow-suc, arith}
 use Rattle.std.proofs.Math.Nat.{min-le_left, pow-zero}
 use Rattle.std.specs.Str.{bytes_eq}
@@ -77,3 +77,8 @@ number TooLong = 36
 -- 36 comes with more bytes than a name has, and with no others
 abbrev pub Refused : List ℕ → NameRefusal → Type 0
 Refused bs TooLong = name_limit < length bs
+
+-- what making a name of the bytes answers: the name, or that they are too many
+pub record Naming (bs : List ℕ) (answer : Result Name NameRefusal) : Type 0 where
+  pub made : MatchResult answer (MadeFrom bs) (Refused bs)
+  pub only : IfOk answer (OnlyName bs)

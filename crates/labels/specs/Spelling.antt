@@ -29,6 +29,13 @@ pub record Longest (ok : ℕ → Bool) (end p q : ℕ) : Type 0 where
   pub all : (i : ℕ) → p ≤ i → i < q → ok i ≡ true
   pub stops : q < end → ok q ≡ false
 
+-- the same, of a test of bytes that is told by what it may answer
+pub record LongestBy (answers : ℕ → Bool → Type 0) (bs : List ℕ) (p q : ℕ) : Type 0 where
+  pub late : p ≤ q
+  pub within : q ≤ length bs
+  pub all : (i : ℕ) → p ≤ i → i < q → answers (byte bs i) true
+  pub stops : q < length bs → answers (byte bs q) false
+
 -- A name begins at p, and ends at q since it is as long as it can be.
 pub record Named (bs : List ℕ) (p q : ℕ) : Type 0 where
   pub begins : starts (byte bs p) ≡ true

@@ -1,21 +1,9 @@
 // What a kind of labels is.
-ghost use Rattle.std.specs.Prelude.{◌≡◌, ℕ, Bool, true, List};
+ghost use Rattle.std.specs.Prelude.{◌≡◌, ℕ, Bool, List};
 ghost use Rattle.labels.specs.Spelling.{kept_name};
 
-// A kind of labels means an equality of labels.
-pub trait LabelKind: Copy {
-    ghost same: { Self → Self → Bool };
-
-    // Whether the two labels are equal.
-    fn equals(&self, other: &Self) -> bool
-        ensures { result ≡ same self.now other.now };
-
-    ghost reflexive: { (a : Self) → same a a ≡ true };
-
-    ghost symmetric: { (a b : Self) → same a b ≡ true → same b a ≡ true };
-
-    ghost transitive: { (a b c : Self) → same a b ≡ true → same b c ≡ true → same a c ≡ true };
-}
+// A kind of labels means an equality of labels, which `Eq` proves reflexive, symmetric and transitive.
+pub trait LabelKind: Copy + Eq {}
 
 // A kind of labels that are spelled as names.
 pub trait NameLabel: LabelKind {
@@ -29,5 +17,5 @@ pub trait NameLabel: LabelKind {
     fn from_name(bytes: &[u8]) -> Self
         ensures { spelled result ≡ kept_name bytes.now };
 
-    ghost tied: { (a b : Self) → Self.LabelKind.same a b ≡ alike (spelled a) (spelled b) };
+    ghost tied: { (a b : Self) → Self.eq a b ≡ alike (spelled a) (spelled b) };
 }

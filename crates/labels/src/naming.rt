@@ -1,10 +1,10 @@
 // Making names, reading their bytes back, and comparing them.
-ghost use Rattle.std.specs.Prelude.{◌≡◌, ◌-◌, ◌^◌, ◌<◌, ◌≤◌, min, [], length, Some, IfOk, MatchResult, refl};
+ghost use Rattle.std.specs.Prelude.{◌≡◌, ◌-◌, ◌^◌, ◌<◌, ◌≤◌, min, [], length, Some};
 ghost use Rattle.std.specs.List.{slice_get};
 ghost use Rattle.std.specs.Str.{bytes_eq};
 ghost use Rattle.labels.specs.Words.{word_at_place};
-ghost use Rattle.labels.specs.Names.{fixed, bytes_of, MadeFrom, OnlyName, Refused, number};
-ghost use Rattle.labels.specs.NameLaws.{same_self, same_back, same_on};
+ghost use Rattle.labels.specs.Names.{fixed, bytes_of, Naming, number};
+ghost use Rattle.labels.specs.NameLaws.{compared};
 
 use crate::kind::{LabelKind, NameLabel};
 use crate::name::{Name, NameRefusal};
@@ -47,11 +47,33 @@ impl Name {
         }
     }
 
-    // The name of these bytes, unless they are too many.
-    pub fn from_bytes(bytes: &[u8]) -> Result<Name, NameRefusal>
-        ensures made { MatchResult result (MadeFrom bytes.now) (Refused bytes.now) }
-        ensures only { IfOk result (OnlyName bytes.now) }
+    // How many bytes the name has.
+    #[tactic(auto, using(crate::specs::NameLaws::length_bytes))]
+    pub fn len(&self) -> usize
+        ensures { result ≡ length (bytes_of self.now) }
     {
+        self.len
+    }
+
+    // The byte at the place, if the name has one there.
+    pub fn byte(&self, at: usize) -> Option<u8>
+        ensures { result ≡ slice_get (bytes_of self.now) at }
+    {
+        if at < self.len() {
+            Some(byte_at(self, at))
+        } else {
+            None
+        }
+    }
+}
+
+// The name of these bytes, unless they are too many.
+impl TryFrom<&[u8]> for Name {
+    type Error = NameRefusal;
+
+    ghost try_from_gives = { λ bytes answer. Naming bytes.now answer };
+
+    fn try_from(bytes: &[u8]) -> Result<Name, NameRefusal> {
         let len = bytes.len();
         if len > NAME_LIMIT {
             return Err(NameRefusal::TooLong);
@@ -71,31 +93,6 @@ impl Name {
             fourth,
         })
     }
-
-    // How many bytes the name has.
-    pub fn len(&self) -> usize
-        ensures { result ≡ length (bytes_of self.now) }
-    {
-        length(self)
-    }
-
-    // The byte at the place, if the name has one there.
-    pub fn byte(&self, at: usize) -> Option<u8>
-        ensures { result ≡ slice_get (bytes_of self.now) at }
-    {
-        if at < self.len() {
-            Some(byte_at(self, at))
-        } else {
-            None
-        }
-    }
-}
-
-// How many bytes a name has.
-fn length(name: &Name) -> usize
-    ensures { result ≡ length (bytes_of name.now) }
-{
-    name.len
 }
 
 // The word with the byte at the place.
@@ -119,43 +116,21 @@ fn byte_at(name: &Name, at: usize) -> u8
     ensures { slice_get (bytes_of name.now) at ≡ Some result }
 {
     let digit = at % 8;
-    let digits = (length(name) - (at - digit)).min(8);
+    let digits = (name.len() - (at - digit)).min(8);
     let word = word_with(name, at);
     ((word >> (8 * (digits - 1 - digit))) % 256) as u8
 }
 
-// Whether the two names have the same bytes.
-fn same_bytes(a: &Name, b: &Name) -> bool
-    ensures { result ≡ bytes_eq (bytes_of a.now) (bytes_of b.now) }
-{
-    *a == *b
-}
-
-impl LabelKind for Name {
-    ghost same = { λ a b. bytes_eq (bytes_of a) (bytes_of b) };
-
-    ghost reflexive = { λ a. same_self (bytes_of a) };
-
-    ghost symmetric = { λ a b e. same_back (bytes_of a) (bytes_of b) e };
-
-    ghost transitive = { λ a b d e f. same_on (bytes_of a) (bytes_of b) (bytes_of d) e f };
-
-    fn equals(&self, other: &Name) -> bool {
-        same_bytes(self, other)
-    }
-}
+impl LabelKind for Name {}
 
 impl NameLabel for Name {
     ghost spelled = { bytes_of };
 
     ghost alike = { bytes_eq };
 
-    ghost tied = { λ a b. refl };
-
     fn from_name(bytes: &[u8]) -> Name {
-        match Name::from_bytes(bytes) {
-            Ok(name) => name,
-            Err(NameRefusal::TooLong) => Name::empty(),
-        }
+        Name::try_from(bytes).unwrap_or(Name::empty())
     }
+
+    ghost tied = { compared };
 }

@@ -1,6 +1,6 @@
 // How names are spelled in rule texts and in listings.
 ghost use Rattle.std.specs.Prelude.{◌≡◌, ◌<◌, ◌≤◌, length, MatchResult};
-ghost use Rattle.labels.specs.Spelling.{white, starts, inside, byte, Longest, Spelled};
+ghost use Rattle.labels.specs.Spelling.{white, starts, inside, byte, Longest, LongestBy, Spelled};
 ghost use Rattle.labels.specs.Ends.{Unended};
 
 // The bytes that a name has at most.
@@ -27,16 +27,25 @@ pub fn continues_name(b: u8) -> bool
     starts_name(b) || b.is_ascii_digit() || b == b'.' || b == b'-'
 }
 
+// The first place from `from` on whose byte does not pass, or the length.
+fn run_end<F: Fn(u8) -> bool>(bytes: &[u8], from: usize, passes: F) -> usize
+    requires { F.IsAlwaysCallable passes }
+    ensures inside { from ≤ length bytes.now → LongestBy (F.post passes) bytes.now from result }
+    ensures outside { length bytes.now < from → result ≡ from }
+{
+    if from > bytes.len() {
+        return from;
+    }
+    let rest = &bytes[from..];
+    from + rest.iter().position(|b| !passes(*b)).unwrap_or(rest.len())
+}
+
 // The first place from `from` on where no white space stands, or the length.
 pub fn white_end(bytes: &[u8], from: usize) -> usize
     ensures inside { from ≤ length bytes.now → Longest (λ i. white (byte bytes.now i)) (length bytes.now) from result }
     ensures outside { length bytes.now < from → result ≡ from }
 {
-    let mut at = from;
-    while at < bytes.len() && is_white(bytes[at]) {
-        at += 1;
-    }
-    at
+    run_end(bytes, from, is_white)
 }
 
 // Why no name ends: none begins at the place, or the one that does is too long, and ends there.
@@ -50,13 +59,10 @@ pub enum NoName {
 pub fn name_end(bytes: &[u8], at: usize) -> Result<usize, NoName>
     ensures { MatchResult result (Spelled bytes.now at) (Unended bytes.now at) }
 {
-    if at >= bytes.len() || !starts_name(bytes[at]) {
+    if !bytes.get(at).is_some_and(|b| starts_name(*b)) {
         return Err(NoName::Missing);
     }
-    let mut end = at + 1;
-    while end < bytes.len() && continues_name(bytes[end]) {
-        end += 1;
-    }
+    let end = run_end(bytes, at, continues_name);
     if end - at > NAME_LIMIT {
         return Err(NoName::TooLong(end));
     }

@@ -35,7 +35,7 @@ pub fn parents_come_first() -> u8
 
 // As an expression a text selects the nodes at which its rule occurs, whatever list has its names.
 pub fn texts_select_their_rules<N: NameLabel>() -> u8
-    ensures { TextsSelect N N.LabelKind.same N.spelled N.alike }
+    ensures { TextsSelect N N.eq N.spelled N.alike }
 {
     0
 }

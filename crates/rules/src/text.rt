@@ -73,7 +73,7 @@ fn write_names<N: NameLabel>(text: &[u8], nodes: &[ParsedNode], names: &mut [N])
 
 // The rule of a rule text; the names of its named rule nodes go into `names` at their numbers.
 fn read<N: NameLabel>(text: &[u8], names: &mut [N]) -> Result<Rule, TextRefusal>
-    ensures read { MatchResult result (λ rule. ReadInto N.LabelKind.same N.spelled N.alike text.now rule names.old names.new) (λ f. Reason text.now (length names.old) (number f) (place f) × (names.new ≡ names.old)) }
+    ensures read { MatchResult result (λ rule. ReadInto N.eq N.spelled N.alike text.now rule names.old names.new) (λ f. Reason text.now (length names.old) (number f) (place f) × (names.new ≡ names.old)) }
     ensures only { MatchResult result (OnlyRule text.now (length names.old)) (Unreadable text.now (length names.old)) }
 {
     if names.len() < RULE_NODES {
@@ -93,7 +93,7 @@ impl Rule {
         text: &[u8],
         names: &mut [N],
     ) -> Result<(), TextRefusal>
-        ensures read { MatchResult result (λ _. ReadInto N.LabelKind.same N.spelled N.alike text.now self.new names.old names.new) (λ f. Unread text.now f self.old self.new names.old names.new) }
+        ensures read { MatchResult result (λ _. ReadInto N.eq N.spelled N.alike text.now self.new names.old names.new) (λ f. Unread text.now f self.old self.new names.old names.new) }
         ensures only { MatchResult result (λ _. OnlyRule text.now (length names.old) self.new) (Unreadable text.now (length names.old)) }
     {
         *self = read(text, names)?;

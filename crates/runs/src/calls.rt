@@ -30,7 +30,7 @@ impl<'r> Run<'r> {
     // of the rule nodes.
     pub fn open<L: LabelKind>(&mut self, labels: &[L], label: &L) -> Result<u32, Refusal>
         ensures rule { SameRule self.old self.new }
-        ensures step { Opening (Meets L.LabelKind.same (rule_nodes self.old.rule.now) labels.now label.now) self.old result self.new }
+        ensures step { Opening (Meets L.eq (rule_nodes self.old.rule.now) labels.now label.now) self.old result self.new }
         ensures refused { Unaltered self.old result self.new }
     {
         let met = nodes_met(self.rule, labels, label);

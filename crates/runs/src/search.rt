@@ -24,12 +24,12 @@ fn any_nodes(rule: &Rule) -> u64
 
 // The rule nodes whose test `label` meets, where `labels` has the labels of the tests by the numbers of the rule nodes.
 pub fn nodes_met<L: LabelKind>(rule: &Rule, labels: &[L], label: &L) -> u64
-    ensures { (x : ℕ) → Has result x ↔ ((x < length (rule_nodes rule.now)) × Meets L.LabelKind.same (rule_nodes rule.now) labels.now label.now x) }
+    ensures { (x : ℕ) → Has result x ↔ ((x < length (rule_nodes rule.now)) × Meets L.eq (rule_nodes rule.now) labels.now label.now x) }
 {
     let count = rule.nodes().len();
     let mut met = any_nodes(rule);
     for (x, test) in labels.iter().enumerate() {
-        if x < count && label.equals(test) {
+        if x < count && label == test {
             met = with(met, x);
         }
     }

@@ -1,67 +1,40 @@
-use Rattle.std.proofs.Common.{◌≡◌, ℕ, zero, suc, ◌+◌, ◌-◌, ◌<◌, ◌≤◌, Bool, true, false, ltb, List, [], ◌∷◌, ◌++◌, length, get_or, drop, Some, None, Ok, Err, Option, Result, refl, arith, ltb-false, le-ltb, lt-ltb}
-use Rattle.std.proofs.lemmas.List.{drop_all, drop_more, get_or_default}
+use Rattle.std.proofs.Common.{◌≡◌, ℕ, zero, suc, ◌+◌, ◌-◌, ◌<◌, ◌≤◌, Bool, true, false, ltb, List, [], ◌∷◌, ◌++◌, length, get_or, drop, Some, None, Option, refl, subst, sym, ap, ◌∙◌, arith, ltb-false, le-ltb}
+use Rattle.std.proofs.lemmas.List.{drop_more}
 use Rattle.sources.specs.declared.event.Event.{Event}
 use Rattle.sources.specs.declared.event.Event.TheVariants.{Open, Close}
-use Rattle.sources.specs.Events.{answer, rest, ClosedFrom}
+use Rattle.sources.specs.Events.{rest, ClosedFrom}
+use Rattle.sources.specs.Inner.{Shuts}
 use Rattle.sources.specs.Table.{closings, events_from, ending_from}
 use Rattle.sources.specs.declared.record.Record.{Record}
-use Rattle.sources.specs.declared.record.TableFault.{TableFault}
 use Rattle.sources.specs.declared.record.TableFault.TheVariants.{WrongDepth}
 
-pub record Hands {L : Type 0} (rs : List (Record L)) (n level : ℕ) (r : Result (Option (Event L)) TableFault) (rs' : List (Record L)) (n' level' : ℕ) : Type 0 where
-  pub first : r ≡ answer (events_from level rs) (ending_from n level rs)
-  pub others : events_from level' rs' ≡ rest (events_from level rs)
-  pub ending : ending_from n' level' rs' ≡ ending_from n level rs
+-- where a node is open, the innermost is closed
+pub shut : {L : Type 0} (level : ℕ) (e : Option (Event L)) (after : ℕ) → 0 < level → Shuts level e after → (e ≡ Some Close) × (after ≡ level - 1)
+shut zero e after h s = absurd (omega (arith, h))
+shut (suc level) e after h s = (s.0, let a = s.1 in omega arith)
 
 closings_more : {L : Type 0} (k : ℕ) → 0 < k → closings {L = L} k ≡ Close ∷ closings (k - 1)
 closings_more zero h = absurd (omega (arith, h))
 closings_more {L} (suc k) h = let e : suc k - 1 ≡ k = omega arith in rw e
 
-none_left : {L : Type 0} (n : ℕ) → Hands {L = L} [] n 0 (Ok None) [] n 0
-none_left n = record { first = refl; others = refl; ending = refl }
+-- before a record of a smaller depth a node is closed
+pub record Closes {L : Type 0} (rs : List (Record L)) (level : ℕ) : Type 0 where
+  pub first : events_from level rs ≡ Close ∷ rest (events_from level rs)
+  pub others : events_from (level - 1) rs ≡ rest (events_from level rs)
 
-shut_one : {L : Type 0} (n k : ℕ) → 0 < k → Hands {L = L} [] n k (Ok (Some Close)) [] n (k - 1)
-shut_one {L} n k h = let e = closings_more {L = L} k h in record { first = rw e; others = rw e; ending = refl }
+closes_before : {L : Type 0} (x : Record L) (xs : List (Record L)) (level : ℕ) → x.depth < level → Closes (x ∷ xs) level
+closes_before {L} x xs level h =
+    let pos : 0 < level - x.depth = omega arith in
+    let e = le-ltb level x.depth (omega arith) in
+    let e₁ = le-ltb (level - 1) x.depth (omega arith) in
+    let m : level - 1 - x.depth ≡ level - x.depth - 1 = omega arith in
+    let k = closings_more {L = L} (level - x.depth) pos in
+    record { first = rw (e, k); others = rw (e, e₁, k, m) }
 
-module _ {L : Type 0} (x : Record L) (xs : List (Record L)) (n level : ℕ) where
-  wrong : level < x.depth → Hands (x ∷ xs) n level (Err (WrongDepth n)) (x ∷ xs) n level
-  wrong h = let e = lt-ltb level x.depth h in record { first = rw e; others = rw e; ending = refl }
-
-  close_one : x.depth < level → Hands (x ∷ xs) n level (Ok (Some Close)) (x ∷ xs) n (level - 1)
-  close_one h =
-      let pos : 0 < level - x.depth = omega arith in
-      let e = le-ltb level x.depth (omega arith) in
-      let e₁ = le-ltb (level - 1) x.depth (omega arith) in
-      let m : level - 1 - x.depth ≡ level - x.depth - 1 = omega arith in
-      let k = closings_more {L = L} (level - x.depth) pos in
-      record { first = rw (e, k); others = rw (e, e₁, k, m); ending = rw (e, e₁) }
-
-  open_one : x.depth ≡ level → Hands (x ∷ xs) n level (Ok (Some (Open x.label))) xs (n + 1) (x.depth + 1)
-  open_one h =
-      let e = le-ltb level x.depth (omega arith) in
-      let m : level - x.depth ≡ 0 = omega arith in
-      record { first = rw (e, m); others = rw (e, m); ending = rw e }
-
--- of the records from place p on
-at_none : {L : Type 0} (xs : List (Record L)) (p : ℕ) → length xs ≤ p → drop p xs ≡ []
-at_none xs p h = drop_all p xs h
-
-module _ {L : Type 0} (xs : List (Record L)) (p level : ℕ) where
-  pub finished : length xs ≤ p → level ≡ 0 → Hands (drop p xs) p level (Ok None) (drop p xs) p level
-  finished h z = rw (at_none xs p h, z) (none_left p)
-
-  pub shuts : length xs ≤ p → 0 < level → Hands (drop p xs) p level (Ok (Some Close)) (drop p xs) p (level - 1)
-  shuts h z = rw (at_none xs p h) (shut_one p level z)
-
-  module _ (d : Record L) (within : p < length xs) where
-    pub faults : level < (get_or xs p d).depth → Hands (drop p xs) p level (Err (WrongDepth p)) (drop p xs) p level
-    faults h = rw (drop_more xs p d within) (wrong (get_or xs p d) (drop (p + 1) xs) p level h)
-
-    pub closes : (get_or xs p d).depth < level → Hands (drop p xs) p level (Ok (Some Close)) (drop p xs) p (level - 1)
-    closes h = rw (drop_more xs p d within) (close_one (get_or xs p d) (drop (p + 1) xs) p level h)
-
-    pub opens : (e : Record L) → (get_or xs p d).depth ≡ level → Hands (drop p xs) p level (Ok (Some (Open (get_or xs p e).label))) (drop (p + 1) xs) (p + 1) ((get_or xs p d).depth + 1)
-    opens e h = rw (get_or_default xs p e d within, drop_more xs p d within) (open_one (get_or xs p d) (drop (p + 1) xs) p level h)
+pub closes : {L : Type 0} (xs : List (Record L)) (p level : ℕ) (x : Record L) → p < length xs → x ≡ get_or xs p x → x.depth < level → Closes (drop p xs) level
+closes {L} xs p level x l e h =
+    let front : drop p xs ≡ x ∷ drop (p + 1) xs = drop_more xs p x l ∙ ap (λ (y : Record L). y ∷ drop (p + 1) xs) (sym e) in
+    subst (λ (rs : List (Record L)). Closes rs level) (sym front) (closes_before x (drop (p + 1) xs) level h)
 
 -- what is done closes all
 closed_closings : (L : Type 0) (k level : ℕ) → k ≤ level → ClosedFrom {L = L} k (closings level)

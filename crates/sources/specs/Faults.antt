@@ -1,5 +1,6 @@
 -- The faults of a folder table by their numbers and records.
-use Rattle.std.specs.Prelude.{ℕ}
+use Rattle.std.specs.Prelude.{ℕ, List, ◌++◌, codes}
+use Rattle.std.specs.Fmt.{decimal}
 use Rattle.sources.specs.declared.record.TableFault.{TableFault}
 use Rattle.sources.specs.declared.record.TableFault.TheVariants.{WrongDepth}
 
@@ -8,3 +9,7 @@ number (WrongDepth n) = 40
 
 abbrev pub record_number : TableFault → ℕ
 record_number (WrongDepth n) = n
+
+-- how a fault is printed
+abbrev pub fault_text : TableFault → List ℕ
+fault_text f = decimal (number f) ++ (codes ", record " ++ decimal (record_number f))

@@ -2,3 +2,4 @@ pub mod Faults
 pub mod Events
 pub mod Nodes
 pub mod Table
+pub mod Inner

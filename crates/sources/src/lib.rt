@@ -1,5 +1,6 @@
 #![tactic(auto)]
 
+pub mod drain;
 pub mod event;
 pub mod record;
 pub mod source;

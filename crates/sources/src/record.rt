@@ -1,6 +1,8 @@
 // The records of a folder table.
-ghost use Rattle.std.specs.Prelude.{◌≡◌};
-ghost use Rattle.sources.specs.Faults.{number, record_number};
+ghost use Rattle.std.specs.Prelude.{◌≡◌, Some};
+ghost use Rattle.sources.specs.Faults.{number, record_number, fault_text};
+
+use std::fmt;
 
 // A folder: how deep it lies, and its label.
 #[derive(Clone, Copy)]
@@ -32,6 +34,14 @@ impl TableFault {
         match self {
             TableFault::WrongDepth(record) => *record,
         }
+    }
+}
+
+impl fmt::Display for TableFault {
+    ghost output = { λ fault. Some (fault_text fault) };
+
+    fn fmt<W: fmt::Write>(&self, f: &mut fmt::Formatter<W>) -> fmt::Result {
+        write!(f, "{}, record {}", self.number(), self.record())
     }
 }
 

@@ -1,14 +1,17 @@
 // The folder table as a source.
 ghost use Rattle.std.specs.Prelude.{[], None};
+ghost use Rattle.sources.specs.Inner.{Shuts, SamePlace};
 ghost use Rattle.sources.specs.Table.{table_events, table_ending, Listing};
 
 use crate::event::Event;
 use crate::record::{FolderTable, Record, TableFault};
 use crate::source::Source;
 use labels::kind::LabelKind;
+use std::cmp::Ordering;
 
 impl<'a, L: LabelKind> FolderTable<'a, L> {
     // A source of the nodes of the records.
+    #[tactic(auto, using(crate::proofs::TableListed::listed))]
     pub fn new(records: &'a [Record<L>]) -> FolderTable<'a, L>
         ensures { Listing 0 None [] records.now (table_events result) (table_ending result) }
     {
@@ -17,6 +20,15 @@ impl<'a, L: LabelKind> FolderTable<'a, L> {
             place: 0,
             level: 0,
         }
+    }
+
+    // Closes the innermost node, if any is open.
+    fn close(&mut self) -> Option<Event<L>>
+        ensures shuts { Shuts self.old.level result self.new.level }
+        ensures stays { SamePlace self.old self.new }
+    {
+        self.level = self.level.checked_sub(1)?;
+        Some(Event::Close)
     }
 }
 
@@ -30,24 +42,18 @@ impl<'a, L: LabelKind> Source for FolderTable<'a, L> {
     ghost ending = { table_ending };
 
     fn next(&mut self) -> Result<Option<Event<L>>, TableFault> {
-        if self.place >= self.records.len() {
-            if self.level == 0 {
-                return Ok(None);
+        let Some(record) = self.records.get(self.place) else {
+            return Ok(self.close());
+        };
+        let depth = record.depth as usize;
+        match depth.cmp(&self.level) {
+            Ordering::Greater => Err(TableFault::WrongDepth(self.place)),
+            Ordering::Less => Ok(self.close()),
+            Ordering::Equal => {
+                self.place += 1;
+                self.level = depth + 1;
+                Ok(Some(Event::Open(record.label)))
             }
-            self.level -= 1;
-            return Ok(Some(Event::Close));
         }
-        let depth = self.records[self.place].depth as usize;
-        if depth > self.level {
-            return Err(TableFault::WrongDepth(self.place));
-        }
-        if depth < self.level {
-            self.level -= 1;
-            return Ok(Some(Event::Close));
-        }
-        let label = self.records[self.place].label;
-        self.place += 1;
-        self.level = depth + 1;
-        Ok(Some(Event::Open(label)))
     }
 }

@@ -25,7 +25,7 @@ fn label(bytes: &[u8]) -> Name
     requires { length bytes.now ≤ name_limit }
     ensures { result ≡ name_of bytes.now }
 {
-    match Name::from_bytes(bytes) {
+    match Name::try_from(bytes) {
         Ok(name) => name,
         Err(_) => unreachable(),
     }

@@ -50,7 +50,7 @@ returns g c =
     let f = forms bs p (p.count - 0) c.in_ok-parsed.ensures (omega arith) in
     let names : NamesIn g.N.NameLabel.spelled bs ns c.args.names.now c.write_names.new.names = c.write_names.ensures in
     let made : rule_nodes c.rule_of-rule.result ≡ rule_nodes_of ns = c.rule_of-rule.ensures in
-    let r = texts_select g.row.N.Denot g.N.LabelKind.same g.N.NameLabel.spelled g.N.NameLabel.alike g.met.N.NameLabel.tied bs ns c.args.names.now c.write_names.new.names f.0 names in
+    let r = texts_select g.row.N.Denot g.N.PartialEq.eq g.N.NameLabel.spelled g.N.NameLabel.alike g.met.N.NameLabel.tied bs ns c.args.names.now c.write_names.new.names f.0 names in
     let read : Readable bs (length c.args.names.now) ns = record { enough = c.if-names-lt-RULE_NODES.false; given = f.0 } in
     record {
       read = record {
@@ -61,7 +61,7 @@ returns g c =
         names = names;
         expression = r.0.0;
         stands = r.0.1;
-        selects = subst (λ (rs : List RuleNode). SelectsAlike g.N.LabelKind.same g.N.NameLabel.spelled g.N.NameLabel.alike bs rs c.write_names.new.names) (sym made) r.1;
+        selects = subst (λ (rs : List RuleNode). SelectsAlike g.N.PartialEq.eq g.N.NameLabel.spelled g.N.NameLabel.alike bs rs c.write_names.new.names) (sym made) r.1;
       };
       only = record { nodes = ns; rule_is = made; read = read_sole read };
     }

@@ -8,29 +8,29 @@ use Rattle.rules.proofs.Selects.{slice_get_within}
 use Rattle.runs.proofs.SetLaws.{Grown, grown_yes, grown_no}
 use Rattle.runs.proofs.NthLaws.{get_or_slice_get}
 use Rattle.runs.proofs.search.nodes_met.Goals as goal
-use Rattle.runs.proofs.search.nodes_met.Goals.{then-x-count+then-equals, else-x-count, else-x-count-via-then-x-count+else-equals, else-x-count-via-else-x-count}
+use Rattle.runs.proofs.search.nodes_met.Goals.{then-x-count+then-eq, else-x-count, else-x-count-via-then-x-count+else-eq, else-x-count-via-else-x-count}
 
 pub loop-x-preserved : goal.loop-x-preserved
 loop-x-preserved g c =
     let n : ℕ = c.loop-x.x in
     let l = c.args.label.now in
     let ls = c.args.labels.now in
-    let P : ℕ → Type 0 = λ x. (x < length c.nodes-count.result.now) × (g.L.LabelKind.same l (get_or ls x l) ≡ true) in
-    let E : g.row.L.Denot → Type 0 = λ t. g.L.LabelKind.same l t ≡ true in
+    let P : ℕ → Type 0 = λ x. (x < length c.nodes-count.result.now) × (g.L.PartialEq.eq l (get_or ls x l) ≡ true) in
+    let E : g.row.L.Denot → Type 0 = λ t. g.L.PartialEq.eq l t ≡ true in
     let e : c.index-labels-x.result ≡ get_or ls n l = get_or_read ls n c.index-labels-x.result c.loop-x-test.true c.index-labels-x.is l in
     let u₀ : ℕ = c.any_nodes-met.result in
     let Q : ℕ → Type 0 = λ u. Grown P u₀ (n + 1) u in
     let few = few_nodes c.args.rule.now in
     let long : length c.nodes-count.result.now ≡ length (rule_nodes c.args.rule.now) = ap length c.nodes-count.ensures in
     elim c.if-x-count.branch [
-      | then-x-count+then-equals w ↦
+      | then-x-count+then-eq w ↦
           subst Q (sym w.met-is)
           (grown_yes P u₀ n c.loop-x.met w.with-met.result c.loop-x.invariant
-          (w.if-x-count.true, subst E e (sym w.equals.ensures ∙ w.if-equals.true)) (let k = w.if-x-count.true in omega arith) w.with-met.ensures)
+          (w.if-x-count.true, subst E e (sym w.eq.ensures ∙ w.if-eq.true)) (let k = w.if-x-count.true in omega arith) w.with-met.ensures)
       | else-x-count w ↦
           let no : P n → ⊥ = λ p.
           elim w.else-x-count.branch [
-            | else-x-count-via-then-x-count+else-equals v ↦ false≢true (sym v.if-equals.false ∙ v.equals.ensures ∙ subst E (sym e) p.1)
+            | else-x-count-via-then-x-count+else-eq v ↦ false≢true (sym v.if-eq.false ∙ v.eq.ensures ∙ subst E (sym e) p.1)
             | else-x-count-via-else-x-count v ↦ omega (arith, p.0, v.if-x-count.false)
           ] in
           subst Q (sym w.met-is) (grown_no P u₀ n c.loop-x.met c.loop-x.invariant no)
@@ -54,6 +54,6 @@ returns g c x =
           (λ k.
           let listed = slice_get_within ls x k.0 k.1 in
           let within : x < length (rule_nodes c.args.rule.now) = h.0 in
-          inr (omega arith, (omega arith, ap (g.L.LabelKind.same l) (slice_get_get_or ls x k.0 l k.1) ∙ k.2)))
+          inr (omega arith, (omega arith, ap (g.L.PartialEq.eq l) (slice_get_get_or ls x k.0 l k.1) ∙ k.2)))
           h.1),
     )

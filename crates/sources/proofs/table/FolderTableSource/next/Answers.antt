@@ -1,33 +1,31 @@
-use Rattle.std.proofs.Common.{drop, arith}
-use Rattle.sources.proofs.TableSteps.{finished, shuts, faults, closes, opens, closed}
+use Rattle.std.proofs.Common.{◌<◌, drop, refl, sym, ltb-true, rules, arith}
+use Rattle.sources.proofs.TableSteps.{shut, closes, closed}
 use Rattle.sources.proofs.table.FolderTableSource.next.Goals as goal
 
-pub returns-then-self-eq0 : goal.returns-then-self-eq0
-returns-then-self-eq0 g c =
-    let s = c.args.self.now in
-    let h = finished s.records.now s.place s.level (omega arith) (omega arith) in
-    record { answer = h.first; others = h.others; ending = h.ending; nested = closed (drop s.place s.records.now) s.place 0 s.level (omega arith) }
+pub returns-in_default-clause-nested : goal.returns-in_default-clause-nested
+returns-in_default-clause-nested g c = let s = c.args.self.now in closed (drop s.place s.records.now) s.place 0 s.level (omega arith)
 
-pub returns-then-self : goal.returns-then-self
-returns-then-self g c =
+pub returns-in-Less-clause-answer : goal.returns-in-Less-clause-answer
+returns-in-Less-clause-answer g c =
     let s = c.args.self.now in
-    let h = shuts s.records.now s.place s.level (omega arith) (omega arith) in
-    record { answer = h.first; others = h.others; ending = h.ending; nested = closed (drop s.place s.records.now) s.place 0 s.level (omega arith) }
+    let deep : c.in-Some.record.now.depth < c.args.self.now.level = search rules in
+    let found = c.in-Some.ensures.lookup in
+    let h = closes s.records.now s.place s.level c.in-Some.record.now (ltb-true _ _ (sym found.0)) found.1 deep in
+    let t = shut s.level c.close-in-Less.result c.close-in-Less.new.self.level (omega arith) c.close-in-Less.ensures.shuts in
+    rw (t.0, h.first) refl
 
-pub returns-then-depth-self : goal.returns-then-depth-self
-returns-then-depth-self g c =
+pub returns-in-Less-clause-others : goal.returns-in-Less-clause-others
+returns-in-Less-clause-others g c =
     let s = c.args.self.now in
-    let h = faults s.records.now s.place s.level c.index-self-self.result (omega arith) (omega arith) in
-    record { answer = h.first; others = h.others; ending = h.ending; nested = closed (drop s.place s.records.now) s.place 0 s.level (omega arith) }
+    let deep : c.in-Some.record.now.depth < c.args.self.now.level = search rules in
+    let found = c.in-Some.ensures.lookup in
+    let h = closes s.records.now s.place s.level c.in-Some.record.now (ltb-true _ _ (sym found.0)) found.1 deep in
+    let t = shut s.level c.close-in-Less.result c.close-in-Less.new.self.level (omega arith) c.close-in-Less.ensures.shuts in
+    let stays = c.close-in-Less.ensures.stays in
+    rw (t.1, stays.records, stays.place) h.others
 
-pub returns-then-depth-self-2 : goal.returns-then-depth-self-2
-returns-then-depth-self-2 g c =
-    let s = c.args.self.now in
-    let h = closes s.records.now s.place s.level c.index-self-self.result (omega arith) (omega arith) in
-    record { answer = h.first; others = h.others; ending = h.ending; nested = closed (drop s.place s.records.now) s.place 0 s.level (omega arith) }
+pub returns-in-Less-clause-nested : goal.returns-in-Less-clause-nested
+returns-in-Less-clause-nested g c = let s = c.args.self.now in closed (drop s.place s.records.now) s.place 0 s.level (omega arith)
 
-pub returns : goal.returns
-returns g c =
-    let s = c.args.self.now in
-    let h = opens s.records.now s.place s.level c.index-self-self.result (omega arith) c.index-self-self-2.result (omega arith) in
-    record { answer = h.first; others = h.others; ending = h.ending; nested = closed (drop s.place s.records.now) s.place 0 s.level (omega arith) }
+pub returns-in-Equal-clause-nested : goal.returns-in-Equal-clause-nested
+returns-in-Equal-clause-nested g c = let s = c.args.self.now in closed (drop s.place s.records.now) s.place 0 s.level (omega arith)

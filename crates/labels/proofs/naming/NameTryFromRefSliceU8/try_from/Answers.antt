@@ -1,7 +1,7 @@
 use Rattle.std.proofs.Common.{◌≡◌, ℕ, ◌-◌, ◌≤◌, min, List, length, take, drop, ◌∙◌, arith}
 use Rattle.std.proofs.lemmas.List.{length-take-le}
 use Rattle.labels.specs.NameLaws.{fix_part, join_parts, length_cut, named, only_name}
-use Rattle.labels.proofs.name.Name.from_bytes.Goals as goal
+use Rattle.labels.proofs.naming.NameTryFromRefSliceU8.try_from.Goals as goal
 
 pub returns : goal.returns
 returns c =
