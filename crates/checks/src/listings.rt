@@ -1,5 +1,6 @@
 // Listings and how they end.
 use labels::name::Name;
+use sources::drain::drained;
 use sources::event::Event;
 use sources::source::Source;
 use std::process::Abort;
@@ -10,27 +11,14 @@ use xml::reader::Xml;
 // More events than a test has.
 const MANY: usize = 1000;
 
-// How many events come, and the fault after them, if any.
-fn drained(input: &[u8]) -> (usize, Option<XmlFault>) {
-    let mut source = Xml::new(input);
-    for count in 0..MANY {
-        match source.next() {
-            Ok(Some(_)) => {}
-            Ok(None) => return (count, None),
-            Err(fault) => return (count, Some(fault)),
-        }
-    }
-    (MANY, None)
-}
-
 // The listing is done after so many events.
 fn done(rt: &impl Abort, input: &[u8], events: usize) {
-    assert_eq!(rt; drained(input), (events, None));
+    assert_eq!(rt; drained(&mut Xml::new(input), MANY), (events, None));
 }
 
 // It has this fault after so many events.
 fn refused(rt: &impl Abort, input: &[u8], events: usize, fault: XmlFault) {
-    assert_eq!(rt; drained(input), (events, Some(fault)));
+    assert_eq!(rt; drained(&mut Xml::new(input), MANY), (events, Some(fault)));
 }
 
 #[test]
@@ -54,9 +42,8 @@ fn listings(rt: HostRuntime) {
 #[test]
 fn levels(rt: HostRuntime) {
     let mut input = [b'a'; 387];
-    for level in 0..129 {
-        input[3 * level] = b'<';
-        input[3 * level + 2] = b'>';
+    for tag in input.chunks_exact_mut(3) {
+        tag.copy_from_slice(b"<a>");
     }
     refused(&rt, &input, 128, XmlFault::Deep(384));
 }

@@ -5,11 +5,11 @@ use labels::name::{Name, NameRefusal};
 // Whether the name of the bytes has these bytes and no more.
 fn reads_back(bytes: &[u8]) -> Result<bool, NameRefusal> {
     let name = Name::try_from(bytes)?;
-    let mut same = name.len() == bytes.len() && name.byte(bytes.len()).is_none();
-    for (i, b) in bytes.iter().enumerate() {
-        same = same && name.byte(i) == Some(*b);
-    }
-    Ok(same)
+    let told = bytes
+        .iter()
+        .enumerate()
+        .all(|(i, b)| name.byte(i) == Some(*b));
+    Ok(told && name.len() == bytes.len() && name.byte(bytes.len()).is_none())
 }
 
 #[test]

@@ -5,12 +5,7 @@ use rules::rule::Rule;
 
 // The rule node with the number, if the rule has one.
 fn node(rule: &Rule, number: usize) -> Option<RuleNode> {
-    let nodes = rule.nodes();
-    if number < nodes.len() {
-        Some(nodes[number])
-    } else {
-        None
-    }
+    rule.nodes().get(number).copied()
 }
 
 // How many rule nodes the records give.

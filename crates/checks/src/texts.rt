@@ -48,43 +48,28 @@ fn names(rt: HostRuntime) {
     assert_eq!(rt; count(&text), Err(TextRefusal::LongName(2)));
 }
 
-// The text of one step with as many predicates `[*]` as fit the room, and their number.
-fn predicates(text: &mut [u8; 195]) {
-    text[0] = b'/';
-    text[1] = b'/';
-    text[2] = b'*';
-    for i in 1..65usize {
-        text[3 * i] = b'[';
-        text[3 * i + 1] = b'*';
-        text[3 * i + 2] = b']';
+// Writes a text of one step with predicates `[*]`: as many tests as three bytes each have room for.
+fn write_tests(text: &mut [u8]) {
+    let mut before: [u8; 3] = *b"//*";
+    for test in text.chunks_exact_mut(3) {
+        test.copy_from_slice(&before);
+        before = *b"[*]";
     }
 }
 
 #[test]
 fn tests(rt: HostRuntime) {
     let mut text = [0; 195];
-    predicates(&mut text);
+    write_tests(&mut text);
     assert_eq!(rt; count(&text[0..192]), Ok(64));
     assert_eq!(rt; count(&text), Err(TextRefusal::ManyTests(193)));
-}
-
-// Writes a text of 64 tests in 192 bytes, and a bracket behind it.
-fn many_tests(text: &mut [u8; 227]) {
-    text[0] = b'/';
-    text[1] = b'/';
-    text[2] = b'*';
-    for i in 1..64usize {
-        text[3 * i] = b'[';
-        text[3 * i + 1] = b'*';
-        text[3 * i + 2] = b']';
-    }
-    text[192] = b'[';
 }
 
 #[test]
 fn named_last_test(rt: HostRuntime) {
     let mut text = [b'n'; 227];
-    many_tests(&mut text);
+    write_tests(&mut text[..192]);
+    text[192] = b'[';
     assert_eq!(rt; count(&text[0..192]), Ok(64));
     text[194] = b']';
     assert_eq!(rt; count(&text[0..195]), Err(TextRefusal::ManyTests(193)));
@@ -93,7 +78,8 @@ fn named_last_test(rt: HostRuntime) {
 #[test]
 fn long_last_test(rt: HostRuntime) {
     let mut text = [b'n'; 227];
-    many_tests(&mut text);
+    write_tests(&mut text[..192]);
+    text[192] = b'[';
     text[226] = b']';
     assert_eq!(rt; count(&text), Err(TextRefusal::ManyTests(193)));
 }

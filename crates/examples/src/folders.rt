@@ -1,36 +1,20 @@
 // Folder tables, and a run with more selected nodes than can wait.
-use crate::drain::drained;
+use crate::EVENTS;
 use labels::code::FolderCode;
 use rules::rule::Rule;
 use runs::run::Run;
+use sources::drain::drained;
 use sources::record::{FolderTable, Record};
 use std::io;
 
 fn show_depths(rt: &impl Print, depths: [u32; 3]) -> io::Result<()> {
     let label = FolderCode(7);
-    let records = [
-        Record {
-            depth: depths[0],
-            label,
-        },
-        Record {
-            depth: depths[1],
-            label,
-        },
-        Record {
-            depth: depths[2],
-            label,
-        },
-    ];
+    let records = depths.map(|depth| Record { depth, label });
     let mut source = FolderTable::new(&records);
-    let (count, fault) = drained(&mut source);
+    let (count, fault) = drained(&mut source, EVENTS);
     match fault {
         None => println!(rt; "depths {depths:?}: {count} events"),
-        Some(fault) => {
-            let number = fault.number();
-            let record = fault.record();
-            println!(rt; "depths {depths:?}: {count} events, refused {number}, record {record}")
-        }
+        Some(fault) => println!(rt; "depths {depths:?}: {count} events, refused {fault}"),
     }
 }
 

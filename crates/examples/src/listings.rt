@@ -1,11 +1,12 @@
 // XML listings.
-use crate::drain::drained;
+use crate::EVENTS;
+use sources::drain::drained;
 use std::io;
 use xml::reader::Xml;
 
 fn show_listing(rt: &impl Print, listing: &str) -> io::Result<()> {
     let mut source = Xml::new(listing.as_bytes());
-    let (count, fault) = drained(&mut source);
+    let (count, fault) = drained(&mut source, EVENTS);
     match fault {
         None => println!(rt; "{listing}: {count} events"),
         Some(fault) => {

@@ -1,10 +1,13 @@
 -- Each bit of a word that the bit operations make.
-use Rattle.std.proofs.Common.{◌≡◌, ℕ, zero, suc, ◌+◌, ◌-◌, ◌*◌, ◌/◌, ◌%◌, ◌^◌, ◌<◌, ◌≤◌, min, max, ◌≢◌, ◌⊎◌, ◌↔◌, sym, refl, ap, ◌∙◌, subst, inl, inr, ⊎_elim, mod-eq_of_lt, pow-suc, arith, pow_pos, pow_mono, pow-add}
+use Rattle.std.proofs.Common.{◌≡◌, ℕ, zero, suc, ◌+◌, ◌-◌, ◌*◌, ◌/◌, ◌%◌, ◌^◌, ◌<◌, ◌≤◌, min, max, ◌≢◌, ◌⊎◌, ◌↔◌, sym, refl, ap, ◌∙◌, subst, inl, inr, ⊎_elim, mod-eq_of_lt, pow-suc, arith, pow_pos, pow_mono, pow-add, eqb, ltb}
 use native.Mathlib.Nat.{div-eq_of_lt, zero-div}
-use lib.Bits.{bit_and, bit_or, bit_xor, differ, or_step, and_step, xor_step, or_shr, and_shr, xor_shr, xor_add_and, and_mask}
+use lib.Bits.{bit_and, bit_or, bit_xor, differ, or_step, and_step, xor_step, or_shr, and_shr, xor_shr, xor_add_and, and_mask, or_lt}
 use lib.Arith.{digits_mod, digits_div}
 use lib.Pow.{shl-shr, ones_split, ones_lt, pow-lt}
-use Rattle.std.proofs.lemmas.Bool.{cases_order, cases_lt, cases_eq}
+use Rattle.std.specs.Bool.{Decides}
+use Rattle.std.proofs.lemmas.Nat.{one_shl}
+use Rattle.std.proofs.lemmas.Bool.{cases_order, cases_lt, cases_eq, lt-ltb, ltb-true}
+use Rattle.std.proofs.lemmas.Bool.Decides.{Decides-eqb}
 use Rattle.runs.specs.Bits.{bit, Has}
 
 module _ (A B : ℕ) where
@@ -140,3 +143,51 @@ ones_shr w n h =
 
 pub iff_comp : {P Q R : Type 0} → P ↔ Q → Q ↔ R → P ↔ R
 iff_comp a b = (λ p. b.0 (a.0 p), λ r. a.1 (b.1 r))
+
+-- what the operations of a set tell, where w is the word of the set v
+pub contains_told : (w v n : ℕ) → w ≡ v → Decides (eqb (bit_and (w / 2 ^ n) 1) 1) (Has v n)
+contains_told w v n e = rw (low_bit w n, e) (Decides-eqb (bit v n) 1)
+
+pub contains_past : (w v n : ℕ) → w ≡ v → w < 2 ^ 64 → 64 ≤ n → Decides (ltb n 64) (Has v n)
+contains_past w v n e f l = (
+  λ h. let z : ⊥ = omega (arith, ltb-true) in absurd z,
+  λ h. let k : Has w n = rw e h in lt-ltb n 64 (has_within 64 w n f k),
+)
+
+pub insert_told : (w v n x : ℕ) → w ≡ v → n < 64 → Has (bit_or w (1 * 2 ^ n % 2 ^ 64)) x ↔ (Has v x ⊎ ((x ≡ n) × (n < 64)))
+insert_told w v n x e l =
+    rw (one_shl n 64 l, e) (
+      λ h. ⊎_elim inl (λ k. inr ((has_pow n x).0 k, l)) ((has_or v (2 ^ n) x).0 h),
+      λ h. (has_or v (2 ^ n) x).1 (⊎_elim inl (λ e. inr ((has_pow n x).1 e.0)) h),
+    )
+
+pub intersection_told : (a b v w x : ℕ) → a ≡ v → b ≡ w → Has (bit_and a b) x ↔ (Has v x × Has w x)
+intersection_told a b v w x e f = rw (e, f) (has_and v w x)
+
+pub union_told : (a b v w x : ℕ) → a ≡ v → b ≡ w → Has (bit_or a b) x ↔ (Has v x ⊎ Has w x)
+union_told a b v w x e f = rw (e, f) (has_or v w x)
+
+pub missing_none : (v n x : ℕ) → n ≡ 0 → Has 0 x ↔ ((x < n) × (x < 64) × (Has v x → ⊥))
+missing_none v n x e = (λ h. absurd (has_none x h), λ h. let l : x < n = h.0 in let z : ⊥ = omega arith in absurd z)
+
+pub missing_told : (w v count n x : ℕ) → w ≡ v → w < 2 ^ 64 → n ≡ min count 64
+    → Has (bit_and ((2 ^ 64 - 1) / 2 ^ (64 - n)) ((2 ^ 64 - 1) - w)) x ↔ ((x < count) × (x < 64) × (Has v x → ⊥))
+missing_told w v count n x e f m =
+    let l : n ≤ 64 = omega arith in
+    rw (ones_shr 64 n l, sym e) (
+      λ h.
+          let k = (has_and (2 ^ n - 1) ((2 ^ 64 - 1) - w) x).0 h in
+          let b : x < n = (has_ones n x).0 k.0 in
+          let q : x < 64 = omega arith in
+          (omega arith, q, (has_not 64 x w f q).0 k.1),
+      λ h.
+          let a : x < count = h.0 in
+          let q : x < 64 = h.1 in
+          (has_and (2 ^ n - 1) ((2 ^ 64 - 1) - w) x).1 ((has_ones n x).1 (omega arith), (has_not 64 x w f q).1 h.2),
+    )
+
+pub or_fits : (a b : ℕ) → a < 2 ^ 64 → b < 2 ^ 64 → bit_or a b < 2 ^ 64
+or_fits a b h k = or_lt 64 a b h k
+
+pub insert_fits : (w n : ℕ) → w < 2 ^ 64 → n < 64 → bit_or w (1 * 2 ^ n % 2 ^ 64) < 2 ^ 64
+insert_fits w n h l = or_fits w (1 * 2 ^ n % 2 ^ 64) h (omega arith)

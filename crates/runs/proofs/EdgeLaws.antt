@@ -11,6 +11,13 @@ abbrev pub Lacks : List RuleNode → ℕ → ℕ → ℕ → ℕ → Type 0
 Lacks ns child below n x =
     (y : ℕ) × (0 < y) × (y < n) × (parent_of ns y ≡ x) × (Has (asked (edge_of ns y) child below) y → ⊥)
 
+-- none is under the root's own number
+pub no_root : (ns : List RuleNode) (ch be n x : ℕ) → n ≡ 0 → Lacks ns ch be n x ↔ Lacks ns ch be (n + 1) x
+no_root ns ch be n x e = (
+  λ k. absurd (let l : k.0 < n = k.2 in omega arith),
+  λ k. absurd (let p : 0 < k.0 = k.1 in let l : k.0 < n + 1 = k.2 in omega arith),
+)
+
 module _ (ns : List RuleNode) (ch be n u : ℕ) (inv : (x : ℕ) → Has u x ↔ Lacks ns ch be n x) (pos : 0 < n) where
   abbrev In : ℕ → Type 0
   In y = Has (asked (edge_of ns y) ch be) y

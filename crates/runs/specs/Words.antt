@@ -14,8 +14,12 @@ pub record Words : Type 0 where
   pub opened : ℕ
   pub waiting : List ℕ
 
+-- a node that is opened: nothing was found below it yet
+abbrev pub new_level : ℕ → ℕ → Level
+new_level met number = record { met = met; child = 0; below = 0; number = number }
+
 abbrev pub no_level : Level
-no_level = record { met = 0; child = 0; below = 0; number = 0 }
+no_level = new_level 0 0
 
 -- the first n levels, last first
 abbrev pub stacked : List Level → ℕ → List Level
@@ -51,7 +55,7 @@ pub data Opens (w : ℕ) : Words → Result ℕ Refusal → Words → Type 0 whe
   many : {m : Words} → length m.stack < 128 → m.opened ≡ 1000000 → Opens w m (Err TooMany) m
   fine : {m : Words} → length m.stack < 128 → m.opened < 1000000
       → Opens w m (Ok m.opened) (record
-      { stack = record { met = w; child = 0; below = 0; number = m.opened } ∷ m.stack; opened = m.opened + 1; waiting = m.waiting })
+      { stack = new_level w m.opened ∷ m.stack; opened = m.opened + 1; waiting = m.waiting })
 
 pub data Closes (rule : List RuleNode) : Words → Result Bool Refusal → Words → Type 0 where
   none : {m : Words} → m.stack ≡ [] → Closes rule m (Err NothingOpen) m
@@ -79,10 +83,10 @@ Kept s (Ok x) s' = Unit {0}
 Kept s (Err k) s' = s' ≡ s
 
 -- the two parts of a closing
-abbrev pub Waits : ℕ → Levels → Bool → Levels → Type 0
-Waits n s true s' =
+abbrev pub Waits : ℕ → Levels → Result (Unit {0}) Refusal → Levels → Type 0
+Waits n s (Ok _) s' =
     (s.waiting < 64) × (words s' ≡ record { stack = (words s).stack; opened = s.opened; waiting = (words s).waiting ++ n ∷ [] }) × (s'.depth ≡ s.depth)
-Waits n s false s' = (s.waiting ≡ 64) × (s' ≡ s)
+Waits n s (Err f) s' = (f ≡ WaitingFull) × (s.waiting ≡ 64) × (s' ≡ s)
 
 -- the stack with its innermost node closed
 abbrev pub merged : ℕ → ℕ → List Level → List Level

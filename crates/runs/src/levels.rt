@@ -1,6 +1,8 @@
 // The state of a run.
 ghost use Rattle.std.specs.Prelude.{◌<◌, ◌≤◌};
 
+use crate::node_set::NodeSet;
+
 // The open nodes, the waiting numbers and the accepted openings that a run has at most.
 pub const DEPTH: usize = 128;
 
@@ -12,19 +14,19 @@ pub const OPENINGS: u32 = 1_000_000;
 // descendant of it so far, and its number.
 #[derive(Clone, Copy)]
 pub struct Level {
-    pub met: u64,
-    pub child: u64,
-    pub below: u64,
+    pub met: NodeSet,
+    pub child: NodeSet,
+    pub below: NodeSet,
     pub number: u32,
 }
 
 // The open nodes, outermost first, and the numbers that wait, in a ring with the oldest at `head`.
 #[derive(Clone, Copy)]
 pub struct Levels {
-    pub open: [Level; 128],
+    pub open: [Level; DEPTH],
     pub depth: usize,
     pub opened: u32,
-    pub ring: [u32; 64],
+    pub ring: [u32; WAITING],
     pub head: usize,
     pub waiting: usize,
     ghost deep: { depth ≤ 128 },

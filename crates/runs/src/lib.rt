@@ -1,10 +1,10 @@
 #![tactic(auto)]
 
-pub mod bits;
 pub mod call;
 mod calls;
 pub mod edges;
 mod levels;
+pub mod node_set;
 pub mod refusal;
 pub mod run;
 pub mod search;

@@ -5,32 +5,32 @@ ghost use Rattle.rules.specs.Nodes.{rule_nodes};
 ghost use Rattle.rules.specs.Embedding.{Meets};
 ghost use Rattle.runs.specs.Bits.{Has};
 
-use crate::bits::with;
+use crate::node_set::NodeSet;
 use labels::kind::LabelKind;
 use rules::rule::Rule;
 
 // The rule nodes that every label meets.
-fn any_nodes(rule: &Rule) -> u64
+fn any_nodes(rule: &Rule) -> NodeSet
     ensures { (x : ℕ) → Has result x ↔ ((x < length (rule_nodes rule.now)) × (any_of (rule_nodes rule.now) x ≡ true)) }
 {
-    let mut met: u64 = 0;
+    let mut met = NodeSet::empty();
     for (x, node) in rule.nodes().iter().enumerate() {
         if node.any {
-            met = with(met, x);
+            met.insert(x);
         }
     }
     met
 }
 
 // The rule nodes whose test `label` meets, where `labels` has the labels of the tests by the numbers of the rule nodes.
-pub fn nodes_met<L: LabelKind>(rule: &Rule, labels: &[L], label: &L) -> u64
+pub fn nodes_met<L: LabelKind>(rule: &Rule, labels: &[L], label: &L) -> NodeSet
     ensures { (x : ℕ) → Has result x ↔ ((x < length (rule_nodes rule.now)) × Meets L.eq (rule_nodes rule.now) labels.now label.now x) }
 {
     let count = rule.nodes().len();
     let mut met = any_nodes(rule);
     for (x, test) in labels.iter().enumerate() {
         if x < count && label == test {
-            met = with(met, x);
+            met.insert(x);
         }
     }
     met

@@ -1,37 +1,45 @@
 // The calls, on the levels and the ring.
 ghost use Rattle.std.specs.Prelude.{◌≡◌, ◌<◌};
 ghost use Rattle.rules.specs.Nodes.{rule_nodes};
-ghost use Rattle.runs.specs.Words.{words, no_words, Opens, Closes, Takes, Waits, Merges, Kept};
+ghost use Rattle.runs.specs.Words.{new_level, words, no_words, Opens, Closes, Takes, Waits, Merges, Kept};
 
-use crate::bits::{both, has};
 use crate::edges::edges_met;
 use crate::levels::{DEPTH, Level, Levels, OPENINGS, WAITING};
+use crate::node_set::NodeSet;
 use crate::refusal::Refusal;
 use rules::rule::Rule;
+
+impl Level {
+    // A node that is opened: nothing was found below it yet.
+    fn new(met: NodeSet, number: u32) -> Level
+        ensures { result ≡ new_level met number }
+    {
+        Level {
+            met,
+            child: NodeSet::empty(),
+            below: NodeSet::empty(),
+            number,
+        }
+    }
+}
 
 impl Levels {
     // Nothing open, nothing waiting.
     pub fn new() -> Levels
         ensures { words result ≡ no_words }
     {
-        let none = Level {
-            met: 0,
-            child: 0,
-            below: 0,
-            number: 0,
-        };
         Levels {
-            open: [none; 128],
+            open: [Level::new(NodeSet::empty(), 0); DEPTH],
             depth: 0,
             opened: 0,
-            ring: [0; 64],
+            ring: [0; WAITING],
             head: 0,
             waiting: 0,
         }
     }
 
     // A new innermost open node that meets the tests `met`.
-    pub fn open(&mut self, met: u64) -> Result<u32, Refusal>
+    pub fn open(&mut self, met: NodeSet) -> Result<u32, Refusal>
         ensures opens { Opens met (words self.old) result (words self.new) }
         ensures kept { Kept self.old result self.new }
     {
@@ -43,12 +51,7 @@ impl Levels {
         if number >= OPENINGS {
             return Err(Refusal::TooMany);
         }
-        self.open[at] = Level {
-            met,
-            child: 0,
-            below: 0,
-            number,
-        };
+        self.open[at] = Level::new(met, number);
         self.depth = at + 1;
         self.opened = number + 1;
         Ok(number)
@@ -63,33 +66,30 @@ impl Levels {
             return Err(Refusal::NothingOpen);
         }
         let level = self.open[self.depth - 1];
-        let found = both(level.met, edges_met(rule, level.child, level.below));
-        if has(found, 0) {
-            if !self.wait(level.number) {
-                return Err(Refusal::WaitingFull);
-            }
-            self.merge(found, level.below);
-            return Ok(true);
+        let found = level.met.intersection(edges_met(rule, level.child, level.below));
+        let selected = found.contains(0);
+        if selected {
+            self.wait(level.number)?;
         }
         self.merge(found, level.below);
-        Ok(false)
+        Ok(selected)
     }
 
-    // One waiting number more; false where 64 wait.
-    fn wait(&mut self, number: u32) -> bool
+    // One waiting number more, unless as many wait as can.
+    fn wait(&mut self, number: u32) -> Result<(), Refusal>
         ensures { Waits number self.old result self.new }
     {
         let count = self.waiting;
         if count >= WAITING {
-            return false;
+            return Err(Refusal::WaitingFull);
         }
         self.ring[(self.head + count) % WAITING] = number;
         self.waiting = count + 1;
-        true
+        Ok(())
     }
 
     // Ends the innermost open node, at which `found` were found, and `below` at the nodes below it.
-    fn merge(&mut self, found: u64, below: u64)
+    fn merge(&mut self, found: NodeSet, below: NodeSet)
         requires { 0 < self.old.depth }
         ensures { Merges found below self.old self.new }
     {
@@ -99,8 +99,8 @@ impl Levels {
             return;
         }
         let mut parent = self.open[at - 1];
-        parent.child |= found;
-        parent.below |= found | below;
+        parent.child = parent.child.union(found);
+        parent.below = parent.below.union(found.union(below));
         self.open[at - 1] = parent;
         self.depth = at;
     }
@@ -110,8 +110,8 @@ impl Levels {
         ensures { Takes (words self.old) out.old result out.new (words self.new) }
     {
         let count = self.waiting.min(out.len());
-        for i in 0..count {
-            out[i] = self.ring[(self.head + i) % WAITING];
+        for (i, slot) in out[..count].iter_mut().enumerate() {
+            *slot = self.ring[(self.head + i) % WAITING];
         }
         self.head = (self.head + count) % WAITING;
         self.waiting -= count;

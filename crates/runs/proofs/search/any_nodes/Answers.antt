@@ -10,7 +10,7 @@ use Rattle.runs.proofs.search.any_nodes.Goals as goal
 use Rattle.runs.proofs.search.any_nodes.Goals.{then-node, else-node}
 
 pub loop-x-init : goal.loop-x-init
-loop-x-init c = grown_none (λ (x : ℕ). any_of (rule_nodes c.args.rule.now) x ≡ true) 0
+loop-x-init c = let P : ℕ → Type 0 = λ x. any_of (rule_nodes c.args.rule.now) x ≡ true in subst (λ (u : ℕ). Grown P 0 0 u) (sym c.empty-met.ensures) (grown_none P 0)
 
 pub loop-x-preserved : goal.loop-x-preserved
 loop-x-preserved c =
@@ -24,8 +24,8 @@ loop-x-preserved c =
     elim c.if-node.branch [
       | then-node w ↦
           subst Q (sym w.met-is)
-          (grown_yes P 0 n c.loop-x.met w.with-met.result c.loop-x.invariant
-          (subst (λ (ms : List RuleNode). any_of ms n ≡ true) c.nodes-node-items.ensures w.if-node.true) (omega arith) w.with-met.ensures)
+          (grown_yes P 0 n c.loop-x.met w.insert.new.self c.loop-x.invariant
+          (subst (λ (ms : List RuleNode). any_of ms n ≡ true) c.nodes-node-items.ensures w.if-node.true) (omega arith) w.insert.ensures)
       | else-node w ↦
           subst Q (sym w.met-is)
           (grown_no P 0 n c.loop-x.met c.loop-x.invariant (λ h. both_ways _ w.if-node.false (subst (λ (ms : List RuleNode). any_of ms n ≡ true) (sym c.nodes-node-items.ensures) h)))

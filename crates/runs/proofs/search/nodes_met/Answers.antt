@@ -25,8 +25,8 @@ loop-x-preserved g c =
     elim c.if-x-count.branch [
       | then-x-count+then-eq w ↦
           subst Q (sym w.met-is)
-          (grown_yes P u₀ n c.loop-x.met w.with-met.result c.loop-x.invariant
-          (w.if-x-count.true, subst E e (sym w.eq.ensures ∙ w.if-eq.true)) (let k = w.if-x-count.true in omega arith) w.with-met.ensures)
+          (grown_yes P u₀ n c.loop-x.met w.insert.new.self c.loop-x.invariant
+          (w.if-x-count.true, subst E e (sym w.eq.ensures ∙ w.if-eq.true)) (let k = w.if-x-count.true in omega arith) w.insert.ensures)
       | else-x-count w ↦
           let no : P n → ⊥ = λ p.
           elim w.else-x-count.branch [

@@ -1,6 +1,6 @@
-use Rattle.std.proofs.Common.{◌+◌, ◌<◌, List, length, Ok, sym, refl, subst, arith}
+use Rattle.std.proofs.Common.{◌+◌, ◌<◌, List, ◌∷◌, length, Ok, sym, refl, ap, ◌∙◌, subst, arith}
 use Rattle.runs.specs.declared.levels.Level.{Level}
-use Rattle.runs.specs.Words.{Opens, words, queued}
+use Rattle.runs.specs.Words.{Words, Opens, words, stacked, queued}
 use Rattle.runs.proofs.WordLaws.{stacked_push, length_stacked}
 use Rattle.runs.proofs.levels.Levels.open.Goals as goal
 
@@ -15,10 +15,11 @@ returns-then-number-ge-OPENINGS c =
 pub returns : goal.returns
 returns c =
     let s = c.args.self.now in
-    let l : Level = record { met = c.args.met; child = 0; below = 0; number = s.opened } in
     let lt : s.depth < length s.open = omega arith in
-    let G : List Level → Type 0 = λ st. Opens c.args.met (words s) (Ok s.opened) (record { stack = st; opened = s.opened + 1; waiting = queued s.ring s.head s.waiting }) in
+    let after : List Level → Words = λ st. record { stack = st; opened = s.opened + 1; waiting = queued s.ring s.head s.waiting } in
+    let G : List Level → Type 0 = λ st. Opens c.args.met (words s) (Ok s.opened) (after st) in
+    let top = stacked_push s.open c.new.result s.depth lt ∙ ap (λ (l : Level). l ∷ stacked s.open s.depth) c.new.ensures in
     record {
-      opens = subst G (sym (stacked_push s.open l s.depth lt)) (Opens.fine (omega (arith, length_stacked s.open s.depth)) (omega arith));
+      opens = subst G (sym top) (Opens.fine (omega (arith, length_stacked s.open s.depth)) (omega arith));
       kept = tt;
     }
