@@ -1,5 +1,5 @@
 -- What the calls of a run do, by the states of the reference model that it stands for.
-use Rattle.std.specs.Prelude.{◌≡◌, ℕ, ◌<◌, ◌↔◌, List, ◌++◌, length, take, drop, Ok, Err, Result}
+use Rattle.std.specs.Prelude.{◌≡◌, ℕ, ◌<◌, ◌≤◌, ◌↔◌, List, ◌++◌, length, take, drop, Ok, Err, Result}
 use Rattle.rules.specs.declared.node.RuleNode.{RuleNode}
 use Rattle.rules.specs.Nodes.{rule_nodes}
 use Rattle.runs.specs.declared.refusal.Refusal.{Refusal}
@@ -18,9 +18,18 @@ nodes_of run = rule_nodes run.rule.now
 abbrev pub StandsFor : Run → Tree → Type 0
 StandsFor run m = Stands (nodes_of run) run.state m
 
--- whatever the run stood for, the answer is the model's, and the run stands for the model's next state
-abbrev pub Steps : Run → Call ℕ → Answer → Run → Type 0
-Steps run c answer run' = (m : Tree) → StandsFor run m → (m' : Tree) × Does (nodes_of run) Has m c answer m' × StandsFor run' m'
+-- n is what f tells of a state that the run stands for
+abbrev pub Tells : Run → (Tree → ℕ) → ℕ → Type 0
+Tells run f n = (m : Tree) → StandsFor run m → n ≡ f m
+
+-- a run keeps its rule
+abbrev pub SameRule : Run → Run → Type 0
+SameRule run run' = run'.rule.now ≡ run.rule.now
+
+-- A call. Whatever the run stood for, the answer is the model's, and the run stands for the model's next state.
+pub record Steps (run : Run) (c : Call ℕ) (answer : Answer) (run' : Run) : Type 0 where
+  pub rule : SameRule run run'
+  pub model : (m : Tree) → StandsFor run m → (m' : Tree) × Does (nodes_of run) Has m c answer m' × StandsFor run' m'
 
 -- an opening of a node whose label meets the tests of the rule nodes `meets`: the node carries them as a set
 abbrev pub Opening : (ℕ → Type 0) → Run → Result ℕ Refusal → Run → Type 0
@@ -32,8 +41,10 @@ pub record Taking (m : Tree) (xs : List ℕ) (n : ℕ) (ys : List ℕ) (run' : R
   pub list : ys ≡ take n m.waiting ++ drop n xs
   pub stands : StandsFor run' (taking m (length xs))
 
-abbrev pub SameRule : Run → Run → Type 0
-SameRule run run' = run'.rule.now ≡ run.rule.now
+pub record Hands (run : Run) (xs : List ℕ) (n : ℕ) (ys : List ℕ) (run' : Run) : Type 0 where
+  pub rule : SameRule run run'
+  pub fits : n ≤ length xs
+  pub model : (m : Tree) → StandsFor run m → Taking m xs n ys run'
 
 -- a refused call leaves the run as it was
 abbrev pub Unaltered : {T : Type 0} → Run → Result T Refusal → Run → Type 0

@@ -1,11 +1,10 @@
 // The calls of a run.
-ghost use Rattle.std.specs.Prelude.{◌≡◌, ◌≤◌, length};
+ghost use Rattle.std.specs.Prelude.{◌≡◌, length};
 ghost use Rattle.rules.specs.Embedding.{Meets};
 ghost use Rattle.rules.specs.Nodes.{rule_nodes};
 ghost use Rattle.runs.specs.declared.call.Call.TheVariants.{Close};
 ghost use Rattle.runs.specs.Model.{empty, closed};
-ghost use Rattle.runs.specs.Stands.{Tree};
-ghost use Rattle.runs.specs.Calls.{StandsFor, Steps, Opening, Taking, SameRule, Unaltered};
+ghost use Rattle.runs.specs.Calls.{StandsFor, Tells, Steps, Opening, Hands, Unaltered};
 
 use crate::levels::Levels;
 use crate::refusal::Refusal;
@@ -29,7 +28,6 @@ impl<'r> Run<'r> {
     // Opens a node under the innermost open one, and gives its number. `labels` has the labels of the tests by the numbers
     // of the rule nodes.
     pub fn open<L: LabelKind>(&mut self, labels: &[L], label: &L) -> Result<u32, Refusal>
-        ensures rule { SameRule self.old self.new }
         ensures step { Opening (Meets L.eq (rule_nodes self.old.rule.now) labels.now label.now) self.old result self.new }
         ensures refused { Unaltered self.old result self.new }
     {
@@ -39,7 +37,6 @@ impl<'r> Run<'r> {
 
     // Ends the innermost open node, and says whether it is selected.
     pub fn close(&mut self) -> Result<bool, Refusal>
-        ensures rule { SameRule self.old self.new }
         ensures step { Steps self.old Close (closed result) self.new }
         ensures refused { Unaltered self.old result self.new }
     {
@@ -48,30 +45,28 @@ impl<'r> Run<'r> {
 
     // Moves the oldest waiting numbers to the front of `out`, as many as wait and fit, and says how many.
     pub fn take(&mut self, out: &mut [u32]) -> usize
-        ensures rule { SameRule self.old self.new }
-        ensures fits { result ≤ length out.old }
-        ensures step { (m : Tree) → StandsFor self.old m → Taking m out.old result out.new self.new }
+        ensures { Hands self.old out.old result out.new self.new }
     {
         self.state.take(out)
     }
 
     // How many nodes are open.
     pub fn open_count(&self) -> usize
-        ensures { (m : Tree) → StandsFor self.now m → result ≡ length m.path }
+        ensures { Tells self.now (λ m. length m.path) result }
     {
         self.state.depth
     }
 
     // How many openings were accepted.
     pub fn openings(&self) -> u32
-        ensures { (m : Tree) → StandsFor self.now m → result ≡ length m.nodes }
+        ensures { Tells self.now (λ m. length m.nodes) result }
     {
         self.state.opened
     }
 
     // How many numbers wait.
     pub fn waiting_count(&self) -> usize
-        ensures { (m : Tree) → StandsFor self.now m → result ≡ length m.waiting }
+        ensures { Tells self.now (λ m. length m.waiting) result }
     {
         self.state.waiting
     }

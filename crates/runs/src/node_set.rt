@@ -82,3 +82,20 @@ impl NodeSet {
         }
     }
 }
+
+// The numbers of the bits that are set.
+impl From<u64> for NodeSet {
+    ghost from_gives = { λ word set. set ≡ word };
+
+    fn from(word: u64) -> NodeSet {
+        NodeSet { word }
+    }
+}
+
+impl From<NodeSet> for u64 {
+    ghost from_gives = { λ set word. word ≡ set };
+
+    fn from(set: NodeSet) -> u64 {
+        set.word
+    }
+}

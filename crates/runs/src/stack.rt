@@ -66,7 +66,9 @@ impl Levels {
             return Err(Refusal::NothingOpen);
         }
         let level = self.open[self.depth - 1];
-        let found = level.met.intersection(edges_met(rule, level.child, level.below));
+        let found = level
+            .met
+            .intersection(edges_met(rule, level.child, level.below));
         let selected = found.contains(0);
         if selected {
             self.wait(level.number)?;

@@ -1,4 +1,4 @@
-use Rattle.std.proofs.Common.{◌≡◌, ℕ, ◌-◌, ◌<◌, true, false, ◌↔◌, Bool, List, [], ◌∷◌, ◌++◌, length, get_or, rules, Ok, Err, sym, refl, ap, ◌∙◌, subst, arith}
+use Rattle.std.proofs.Common.{◌≡◌, ℕ, ◌-◌, ◌<◌, ◌↔◌, Bool, List, [], ◌∷◌, ◌++◌, length, get_or, rules, Ok, Err, sym, refl, ap, ◌∙◌, subst, arith}
 use Rattle.std.proofs.lemmas.List.{get_or_default}
 use Rattle.std.proofs.lemmas.Bool.Decides.{not_from_Decides}
 use Rattle.runs.specs.declared.levels.Level.{Level}
@@ -44,10 +44,10 @@ returns-in_err-wait-clause-closes c =
     let G : Words → Type 0 = λ m. Closes rule (words s) c.from_residual.result m in
     let is : c.from_residual.result ≡ Err WaitingFull = search rules in
     subst G (sym (ap words full.2)) (subst (λ r. Closes rule (words s) r (words s)) (sym is)
-        (Closes.full (top rule s d pos within) (rest rule s d pos within) c.intersection-found.result (is_top rule s d pos within)
-        (found_by rule s d pos within c.intersection-found.result c.edges_met.result c.intersection-found.ensures c.edges_met.ensures)
-        (c.contains-selected.ensures.0 c.if-selected.true)
-        (omega (arith, length_queued s.ring s.head s.waiting, full.1))))
+    (Closes.full (top rule s d pos within) (rest rule s d pos within) c.intersection-found.result (is_top rule s d pos within)
+    (found_by rule s d pos within c.intersection-found.result c.edges_met.result c.intersection-found.ensures c.edges_met.ensures)
+    (c.contains-selected.ensures.0 c.if-selected.true)
+    (omega (arith, length_queued s.ring s.head s.waiting, full.1))))
 
 pub returns-clause-closes : goal.returns-clause-closes
 returns-clause-closes c =

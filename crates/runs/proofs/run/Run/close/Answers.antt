@@ -14,7 +14,6 @@ pub returns : goal.returns
 returns c =
     let rule = c.args.self.now.rule.now in
     record {
-      rule = refl;
-      step = λ m h. close_sim (rule_nodes rule) rule.ordered rule.some m h c.close.ensures.closes;
+      step = record { rule = refl; model = λ m h. close_sim (rule_nodes rule) rule.ordered rule.some m h c.close.ensures.closes };
       refused = run_kept c.args.self.now _ c.close.result refl c.close.ensures.kept;
     }

@@ -14,7 +14,10 @@ pub returns : goal.returns
 returns g c =
     let rule = c.args.self.now.rule.now in
     record {
-      rule = refl;
-      step = (c.nodes_met-met.result, c.nodes_met-met.ensures, λ m h. open_sim (rule_nodes rule) m c.nodes_met-met.result h c.open.ensures.opens);
+      step = (
+        c.nodes_met-met.result,
+        c.nodes_met-met.ensures,
+        record { rule = refl; model = λ m h. open_sim (rule_nodes rule) m c.nodes_met-met.result h c.open.ensures.opens },
+      );
       refused = run_kept c.args.self.now _ c.open.result refl c.open.ensures.kept;
     }

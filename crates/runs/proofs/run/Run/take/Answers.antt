@@ -27,7 +27,7 @@ returns c =
     record {
       rule = refl;
       fits = let count = c.take.ensures.count in omega arith;
-      step = λ m h. record {
+      model = λ m h. record {
         does = take_does (rule_nodes rule) m s s' xs ys n h c.take.ensures;
         list = take_list (rule_nodes rule) m s s' xs ys n h c.take.ensures;
         stands = take_shows (rule_nodes rule) m s s' xs ys n h c.take.ensures;
