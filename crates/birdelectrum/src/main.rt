@@ -1,11 +1,13 @@
 // Reports the folders of a listing at which a rule occurs.
 #![tactic(auto)]
 
+mod refusal;
 mod report;
 #[cfg(test)]
 mod tests;
 
-use report::{INPUT, Report, Verdict, report_on};
+use refusal::{INPUT, Refusal};
+use report::{Report, report_on};
 use std::alloc::{AllocError, Global};
 use std::io;
 use std::io::{Read, Write};
@@ -14,15 +16,15 @@ use std::io::{Read, Write};
 const LIST: usize = 16_384;
 
 // What the program prints.
-fn text(heap: Global, numbers: &[u32], verdict: Verdict) -> Result<String, AllocError> {
+fn text(heap: Global, numbers: &[u32], verdict: Result<(), Refusal>) -> Result<String, AllocError> {
     let mut text = String::new(heap);
     for number in numbers {
         text.push_str(format!(in heap; "{number}\n")?.as_str())?;
     }
     let count = numbers.len();
     let last = match verdict {
-        Verdict::Selected => format!(in heap; "selected {count}\n")?,
-        Verdict::Refused { number, place } => format!(in heap; "refused {number} at {place}\n")?,
+        Ok(()) => format!(in heap; "selected {count}\n")?,
+        Err(refusal) => format!(in heap; "refused {refusal}\n")?,
     };
     text.push_str(last.as_str())?;
     Ok(text)
@@ -33,6 +35,6 @@ fn main(rt: HostRuntime) -> io::Result<()> {
     rt.stdin().take(INPUT as u64 + 1).read_to_end(&mut input)?;
     let mut numbers = vec![in rt.alloc(); 0u32; LIST]?;
     let Report { reported, verdict } = report_on(&input, &mut numbers);
-    let text = text(rt.alloc(), &numbers[0..reported], verdict)?;
+    let text = text(rt.alloc(), &numbers[..reported], verdict)?;
     rt.stdout().write_all(text.as_bytes())
 }

@@ -1,70 +1,60 @@
 // What the program says of an input.
-ghost use Rattle.std.specs.Prelude.{◌≡◌, ◌<◌, ◌≤◌, length};
+ghost use Rattle.std.specs.Prelude.{◌≡◌, ◌≤◌, length, MatchResult};
 ghost use Rattle.sources.specs.Events.{rest};
 ghost use Rattle.xml.specs.Means.{xml_events};
-ghost use Rattle.birdelectrum.specs.declared.report.Stop.{Stop};
 ghost use Rattle.birdelectrum.specs.Parts.{Splits, Moves};
-ghost use Rattle.birdelectrum.specs.Reports.{Reports};
+ghost use Rattle.birdelectrum.specs.Reports.{Bad, Fine, Reports};
 
+use crate::refusal::{INPUT, Refusal, Stop};
 use labels::name::Name;
-use rules::rule::Rule;
-use runs::refusal::Refusal;
+use rules::rule::{RULE_NODES, Rule};
 use runs::run::Run;
 use sources::event::Event;
 use sources::source::Source;
-use xml::fault::XmlFault;
 use xml::reader::Xml;
 
-// The bytes of an input, at most. One more is read, to see whether there are more.
-pub const INPUT: usize = 65_536;
-
-// How the last line goes.
-#[derive(Clone, Copy, PartialEq, Eq, Debug)]
-pub enum Verdict {
-    Selected,
-    Refused { number: u32, place: usize },
-}
-
-// How many numbers are reported, and the verdict.
+// How many numbers are reported, and how the listing ended.
 #[derive(Clone, Copy, PartialEq, Eq, Debug)]
 pub struct Report {
     pub reported: usize,
-    pub verdict: Verdict,
-}
-
-// Why the events end before the listing is done.
-#[derive(Clone, Copy)]
-enum Stop {
-    Fault(XmlFault),
-    Refused(Refusal),
-}
-
-impl From<XmlFault> for Stop {
-    ghost from_gives = { λ x y. y ≡ Stop.Fault x };
-
-    fn from(fault: XmlFault) -> Stop {
-        Stop::Fault(fault)
-    }
-}
-
-impl From<Refusal> for Stop {
-    ghost from_gives = { λ x y. y ≡ Stop.Refused x };
-
-    fn from(refusal: Refusal) -> Stop {
-        Stop::Refused(refusal)
-    }
+    pub verdict: Result<(), Refusal>,
 }
 
 // The place of the first byte 10, or the length.
 fn line_end(input: &[u8]) -> usize
     ensures { Splits input.now result }
 {
-    for (i, b) in input.iter().enumerate() {
-        if *b == b'\n' {
-            return i;
-        }
+    input
+        .iter()
+        .position(|b| *b == b'\n')
+        .unwrap_or(input.len())
+}
+
+// The rule in the first line of an input, with the names of its rule nodes, and the listing behind that line.
+#[derive(Drop)]
+struct Selection<'a> {
+    rule: Rule,
+    names: [Name; RULE_NODES],
+    listing: &'a [u8],
+}
+
+// The rule and the listing of an input.
+fn read_input(input: &[u8]) -> Result<Selection<'_>, Refusal>
+    ensures { MatchResult result (λ _. Fine input.now) (Bad input.now) }
+{
+    if input.len() > INPUT {
+        return Err(Refusal::Input);
     }
-    input.len()
+    let end = line_end(input);
+    let mut rule = Rule::new();
+    let mut names = [Name::empty(); RULE_NODES];
+    rule.read_text(&input[..end], &mut names)?;
+    let start = input.len().min(end + 1);
+    Ok(Selection {
+        rule,
+        names,
+        listing: &input[start..],
+    })
 }
 
 // Feeds the run one event, and takes after a closing; none where the listing is done.
@@ -92,46 +82,23 @@ fn step(
     }
 }
 
-// The verdict on a listing of so many bytes whose events ended early. A run refuses no event of a listing that fits the
-// input.
-fn verdict_on(stop: Stop, length: usize) -> Verdict {
-    match stop {
-        Stop::Fault(fault) => Verdict::Refused {
-            number: fault.number(),
-            place: fault.place(),
-        },
-        Stop::Refused(refusal) => Verdict::Refused {
-            number: refusal.number(),
-            place: length,
-        },
-    }
-}
-
-// Feeds the listing to a run of the rule.
-fn feed(rule: &Rule, names: &[Name], listing: &[u8], numbers: &mut [u32]) -> Report
-    ensures { result.reported ≤ length numbers.old }
+// Feeds the listing to a run of the rule, and counts the numbers reported.
+fn feed(
+    rule: &Rule,
+    names: &[Name],
+    listing: &[u8],
+    numbers: &mut [u32],
+    reported: &mut usize,
+) -> Result<(), Stop>
+    requires { reported.old ≤ length numbers.old }
+    ensures { reported.new ≤ length numbers.old }
 {
     let mut source = Xml::new(listing);
     let mut run = Run::new(rule);
-    let mut reported = 0;
-    'feed: loop {
-        let taken = match step(&mut run, names, &mut source, &mut numbers[reported..]) {
-            Ok(taken) => taken,
-            Err(stop) => {
-                return Report {
-                    reported,
-                    verdict: verdict_on(stop, listing.len()),
-                };
-            }
-        };
-        let Some(count) = taken else {
-            return Report {
-                reported,
-                verdict: Verdict::Selected,
-            };
-        };
-        reported += count;
+    'feed: while let Some(count) = step(&mut run, names, &mut source, &mut numbers[*reported..])? {
+        *reported += count;
     }
+    Ok(())
 }
 
 // The numbers to report stand at the front of the list.
@@ -139,28 +106,21 @@ pub fn report_on(input: &[u8], numbers: &mut [u32]) -> Report
     ensures fits { result.reported ≤ length numbers.old }
     ensures reports { Reports input.now result }
 {
-    if input.len() > INPUT {
-        return Report {
-            reported: 0,
-            verdict: Verdict::Refused {
-                number: 50,
-                place: INPUT,
-            },
-        };
-    }
-    let end = line_end(input);
-    let mut rule = Rule::new();
-    let mut names = [Name::empty(); 64];
-    if let Err(refusal) = rule.read_text(&input[0..end], &mut names) {
-        return Report {
-            reported: 0,
-            verdict: Verdict::Refused {
-                number: refusal.number(),
-                place: refusal.place(),
-            },
-        };
-    }
-    let count = rule.nodes().len();
-    let start = input.len().min(end + 1);
-    feed(&rule, &names[0..count], &input[start..], numbers)
+    let mut reported = 0;
+    let verdict = match read_input(input) {
+        Err(refusal) => Err(refusal),
+        Ok(selection) => {
+            let names = &selection.names[..selection.rule.nodes().len()];
+            let length = selection.listing.len();
+            feed(
+                &selection.rule,
+                names,
+                selection.listing,
+                numbers,
+                &mut reported,
+            )
+            .map_err(|stop| Refusal::Listing { stop, length })
+        }
+    };
+    Report { reported, verdict }
 }

@@ -1,5 +1,5 @@
 // Whole inputs.
-use crate::report::{Report, Verdict, report_on};
+use crate::report::{Report, report_on};
 use std::process::Abort;
 
 // The report on an input, with room for four numbers.
@@ -9,8 +9,12 @@ fn report(input: &[u8]) -> Report {
 }
 
 fn refused(rt: &impl Abort, input: &[u8], reported: usize, number: u32, place: usize) {
-    let verdict = Verdict::Refused { number, place };
-    assert_eq!(rt; report(input), Report { reported, verdict });
+    let report = report(input);
+    assert_eq!(rt; report.reported, reported);
+    let told = report
+        .verdict
+        .map_err(|refusal| (refusal.number(), refusal.place()));
+    assert_eq!(rt; told, Err((number, place)));
 }
 
 #[test]
