@@ -1,8 +1,9 @@
 // The nodes of a rule.
 
 // How a rule node hangs under its parent.
-#[derive(Clone, Copy, PartialEq, Eq, Debug)]
+#[derive(Clone, Copy, PartialEq, Eq, Debug, Default)]
 pub enum Edge {
+    #[default]
     Child,
     Descendant,
 }

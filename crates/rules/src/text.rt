@@ -1,7 +1,7 @@
 // Rules from rule texts.
 ghost use Rattle.std.specs.Prelude.{◌≡◌, ◌<◌, ◌≤◌, length, MatchResult};
 ghost use Rattle.std.specs.List.{AllByRecursion};
-ghost use Rattle.rules.specs.Readers.{Lies};
+ghost use Rattle.rules.specs.Parsing.{Lies};
 ghost use Rattle.rules.specs.Rule.{Rooted, Ordered};
 ghost use Rattle.rules.specs.Nodes.{rule_nodes};
 ghost use Rattle.rules.specs.Expression.{is_star, rule_nodes_of};
@@ -80,7 +80,7 @@ fn read<N: NameLabel>(text: &[u8], names: &mut [N]) -> Result<Rule, TextRefusal>
         return Err(TextRefusal::ShortList);
     }
     let parsed = parse(text)?;
-    let nodes = &parsed.nodes[0..parsed.count];
+    let nodes = parsed.as_slice();
     let rule = rule_of(nodes);
     write_names(text, nodes, names);
     Ok(rule)

@@ -4,7 +4,7 @@ use Rattle.rules.specs.declared.syntax.ParsedNode.{ParsedNode}
 use Rattle.labels.specs.Spelling.{kept_name}
 use Rattle.labels.specs.NameLaws.{kept_short}
 use Rattle.rules.specs.declared.syntax.Kind.TheVariants.{Name}
-use Rattle.rules.specs.Readers.{Lies}
+use Rattle.rules.specs.Parsing.{Lies}
 use Rattle.rules.specs.Naming.{NamesIn, behind, spelling}
 use Rattle.rules.proofs.Written.{blank, every_at, same_part, name_turn, skip_turn}
 use Rattle.rules.proofs.text.write_names.Goals as goal
