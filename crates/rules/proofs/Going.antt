@@ -1,18 +1,21 @@
 -- The loops of the readers, and how their steps join. Assumes nothing.
-use Rattle.std.proofs.Common.{◌≡◌, ℕ, ◌+◌, ◌-◌, List, [], ◌∷◌, length, sym, refl, ap, ◌∙◌, subst, rules}
+use Rattle.std.proofs.lemmas.Bool.{eqb-false}
+use Rattle.rules.specs.Refusals.{number, place}
+use Rattle.std.proofs.Common.{false, eqb, ◌<◌, ◌≤◌, inl, inr, ◌≡◌, ℕ, ◌+◌, ◌-◌, List, [], ◌∷◌, length, sym, refl, ap, ◌∙◌, subst, rules}
 use Rattle.std.specs.List.{AllByRecursion}
 use Rattle.rules.specs.declared.reader.Reader.{Reader}
 use Rattle.rules.specs.declared.refusal.TextRefusal.{TextRefusal}
 use Rattle.rules.specs.declared.syntax.Kind.{Kind}
 use Rattle.rules.specs.declared.syntax.Kind.TheVariants.{DoubleSlash, Slash, Dot, Open, Close, Star, Name, Stray, End}
 use Rattle.rules.specs.declared.syntax.Token.{Token}
+use Rattle.rules.specs.declared.syntax.ParsedNode.{ParsedNode}
 use Rattle.rules.specs.declared.node.Edge.{Edge}
 use Rattle.rules.specs.declared.node.Edge.TheVariants.{Child}
-use Rattle.rules.specs.Machine.{start, root, after, more, on_double, on_after, stuck, on_test, with_node, over, go, run, from, accepts}
-use Rattle.rules.specs.Answer.{Unfit}
+use Rattle.rules.specs.Machine.{lex, start, root, after, more, on_double, on_after, stuck, on_test, with_node, over, go, run, from, accepts}
+use Rattle.rules.specs.Answer.{Unfit, IsRefused, unfit}
 use Rattle.rules.specs.Parsing.{Lies, Parses, ParseFails}
-use Rattle.rules.proofs.Answering.{turns_away, accepting}
-use Rattle.rules.specs.Readers.{told, bytes, left, made, front, Unopened, Kept, Passed, Unexpected, Enters, first, Begun, Joined, Room, StepRead, StepFails, PathFails}
+use Rattle.rules.proofs.Answering.{fit, turns_away, accepting}
+use Rattle.rules.specs.Readers.{told, bytes, left, made, front, Unopened, Fresh, Kept, Expected, Unexpected, Enters, first, Begun, Joined, Room, StepRead, StepFails, PathFails}
 
 -- the bytes that are not read yet
 abbrev pub unread : Reader → ℕ
@@ -43,65 +46,85 @@ further_fails {x = x} {w = w} {edge = edge} {edge' = edge'} {last = last} n room
 ------------------------------------------------------------------------
 -- the whole text
 
--- a token that is not the last stands before those that are left behind it
-passed_on : {e x : Reader} {k : Kind} {t : Token} → Passed e x k t → (t.kind ≡ End → ⊥) → left e ≡ t ∷ left x
-passed_on {t = t} p real = p.upcoming.on real ∙ (λ i. t ∷ from (sym p.same i) (sym p.behind i))
+-- what the text is refused for, from the number of its bytes
+pub empty_fails : (bs : List ℕ) → length bs ≡ 0 → IsRefused bs 10 0
+empty_fails bs h = unfit (inl h)
 
-module _ (e : Reader) (front_of : e.at ≡ 0) (none : made e ≡ []) (fits : Unfit (bytes e) → ⊥) where
-  refused_by : (f : TextRefusal) → run (left e) start ≡ told f → ParseFails (bytes e) f
-  refused_by f h = turns_away (bytes e) f fits (ap (λ p. run (from (bytes e) p) start) (sym front_of) ∙ h)
+pub long_fails : (bs : List ℕ) → 1024 < length bs → IsRefused bs 10 0
+long_fails bs h = unfit (inr h)
+
+-- a token that is not the last stands before those that are left behind it
+passed_on : {e x : Reader} {k : Kind} (p : Expected e x k) → (k ≡ End → ⊥) → left e ≡ p.token ∷ left x
+passed_on p real = p.upcoming.on (λ q. real (sym p.kind ∙ q)) ∙ (λ i. p.token ∷ from (sym p.same i) (sym p.behind i))
+
+-- the text bs has been read as far as behind its step
+pub record Stepped (bs : List ℕ) (y : Reader) : Type 0 where
+  pub fits : Unfit bs → ⊥
+  pub same : bytes y ≡ bs
+  pub stops : Unopened (front (left y))
+  pub leads : (n : ℕ) × (run (lex 0 0 bs) start ≡ run (left y) (after n [] (made y)))
+
+module _ (bs : List ℕ) (e : Reader) (new : Fresh bs e) (some : false ≡ eqb (length bs) 0) (few : length bs ≤ 1024) where
+  fits : Unfit bs → ⊥
+  fits = fit bs (eqb-false _ 0 (sym some)) few
+
+  all_left : lex 0 0 bs ≡ left e
+  all_left i = from (sym new.whole i) (sym new.front i)
 
   -- no text begins with another token
-  pub start_fails : (f : TextRefusal) → Unexpected e DoubleSlash f → ParseFails (bytes e) f
-  start_fails f h = refused_by f (search rules)
+  pub start_fails : (f : TextRefusal) → Unexpected e DoubleSlash f → IsRefused bs (number f) (place f)
+  start_fails f h =
+      let here : run (left e) start ≡ told f = search rules in
+      turns_away bs f fits (ap (λ ts. run ts start) all_left ∙ here)
 
-  module _ (x : Reader) (d : Token) (p : Passed e x DoubleSlash d) where
-    to_root : run (left e) start ≡ run (left x) root
+  module _ (x : Reader) (p : Expected e x DoubleSlash) where
+    to_root : run (lex 0 0 bs) start ≡ run (left x) root
     to_root =
-        let is = p.kind in
-        let real : d.kind ≡ End → ⊥ = λ q. cc in
-        ap (λ ts. run ts start) (passed_on p real) ∙ ap (λ k. go (on_double k root) (over k d.len 0 0) d.place (λ u. run (left x) u)) is
+        ap (λ ts. run ts start) (all_left ∙ passed_on p (λ q. cc))
+        ∙ ap (λ k. go (on_double k root) (over k p.token.len 0 0) p.token.place (λ u. run (left x) u)) p.kind
 
     at_root : Enters x root 0 Child []
     at_root =
-        let nothing : [] ≡ made x = sym (p.made_same ∙ none) in
+        let nothing : [] ≡ made x = sym (p.made_same ∙ new.none) in
         record { nodes_are = nothing; moves_on = λ t _. ap (λ ns. on_test t.kind (with_node 0 Child [] ns t)) nothing }
 
-    pub step_fails : (f : TextRefusal) → StepFails x 0 Child 16 f → ParseFails (bytes e) f
-    step_fails f s = refused_by f (to_root ∙ s [] root refl at_root)
+    pub step_fails : (f : TextRefusal) → StepFails x 0 Child 16 f → IsRefused bs (number f) (place f)
+    step_fails f s = turns_away bs f fits (to_root ∙ s [] root refl at_root)
 
-    module _ (y : Reader) (n : ℕ) (s : StepRead x y 0 Child 16 n) where
-      to_end : run (left e) start ≡ run (left y) (after n [] (made y))
-      to_end = to_root ∙ s.leads [] root refl at_root
+    pub stepped : (y : Reader) (n : ℕ) → StepRead x y 0 Child 16 n → Stepped bs y
+    stepped y n s = record { fits = fits; same = s.kept.same ∙ p.same ∙ new.whole; stops = s.stops; leads = (n, to_root ∙ s.leads [] root refl at_root) }
 
-      pub parses : (z : Reader) (t : Token) → Passed y z End t → Parses (bytes e) (made z)
-      parses z t q =
-          let whole : run (left e) start ≡ accepts (made z) =
-          to_end ∙ ap (λ ts. run ts (after n [] (made y))) (q.upcoming.done q.kind)
-          ∙ ap (λ k. go (on_after k n [] (made y)) (over k t.len (length (made y)) 0) t.place (λ u. run [] u)) q.kind ∙ ap accepts (sym q.made_same) in
-          record {
-            reads = accepting (bytes e) (made z) fits (ap (λ p. run (from (bytes e) p) start) (sym front_of) ∙ whole);
-            lie = subst (λ bs. AllByRecursion (Lies bs) (made z)) (q.same ∙ s.kept.same ∙ p.same) z.lie;
-          }
+pub parses : {bs : List ℕ} {y z : Reader} → Stepped bs y → Expected y z End → Parses bs (made z)
+parses {bs} {y} {z} s q =
+    let t = q.token in
+    let n = s.leads.0 in
+    let all : run (lex 0 0 bs) start ≡ accepts (made z) =
+    s.leads.1 ∙ ap (λ ts. run ts (after n [] (made y))) (q.upcoming.done q.kind)
+    ∙ ap (λ k. go (on_after k n [] (made y)) (over k t.len (length (made y)) 0) t.place (λ u. run [] u)) q.kind ∙ ap accepts (sym q.made_same) in
+    record {
+      reads = accepting bs (made z) s.fits all;
+      lie = subst (λ bs. AllByRecursion (Lies bs) (made z)) (q.same ∙ s.same) z.lie;
+    }
 
-      pub end_fails : (f : TextRefusal) → Unexpected y End f → ParseFails (bytes e) f
-      end_fails f h =
-          let t = h.token in
-          let next = h.upcoming in
-          let real = h.other in
-          let stops : Unopened t.kind = subst (λ ts. Unopened (front ts)) (next.on real) s.stops in
-          refused_by f (
-          to_end ∙ ap (λ ts. run ts (after n [] (made y))) (next.on real)
-          ∙ ap (λ m. go m (over t.kind t.len (length (made y)) 0) t.place (λ u. run (from (bytes y) (t.place + t.len)) u)) (not_allowed t.kind stops real)
-          ∙ ap told (sym h.refused))
-        where
-          not_allowed : (k : Kind) → Unopened k → (k ≡ End → ⊥) → on_after k n [] (made y) ≡ stuck
-          not_allowed DoubleSlash u r = refl
-          not_allowed Slash u r = refl
-          not_allowed Dot u r = refl
-          not_allowed Open u r = absurd u
-          not_allowed Close u r = refl
-          not_allowed Star u r = refl
-          not_allowed Name u r = refl
-          not_allowed Stray u r = refl
-          not_allowed End u r = absurd (r refl)
+-- behind a step with its predicates, outside of brackets, only the end is allowed
+only_end : (k : Kind) (n : ℕ) (ns : List ParsedNode) → Unopened k → (k ≡ End → ⊥) → on_after k n [] ns ≡ stuck
+only_end DoubleSlash n ns u r = refl
+only_end Slash n ns u r = refl
+only_end Dot n ns u r = refl
+only_end Open n ns u r = absurd u
+only_end Close n ns u r = refl
+only_end Star n ns u r = refl
+only_end Name n ns u r = refl
+only_end Stray n ns u r = refl
+only_end End n ns u r = absurd (r refl)
+
+pub end_fails : (bs : List ℕ) (y : Reader) (f : TextRefusal) → Stepped bs y → Unexpected y End f → IsRefused bs (number f) (place f)
+end_fails bs y f s h =
+    let t = h.token in
+    let n = s.leads.0 in
+    let next = h.upcoming.on h.other in
+    turns_away bs f s.fits (
+    s.leads.1 ∙ ap (λ ts. run ts (after n [] (made y))) next
+    ∙ ap (λ m. go m (over t.kind t.len (length (made y)) 0) t.place (λ u. run (from (bytes y) (t.place + t.len)) u))
+    (only_end t.kind n (made y) (subst (λ ts. Unopened (front ts)) next s.stops) h.other)
+    ∙ ap told (sym h.refused))

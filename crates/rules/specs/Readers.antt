@@ -61,21 +61,25 @@ Ended Name = Unit {0}
 Ended Stray = Unit {0}
 Ended End = Unit {0}
 
+-- the reader stands at the front of the text bs, and has noted nothing
+pub record Fresh (bs : List ℕ) (r : Reader) : Type 0 where
+  pub whole : bytes r ≡ bs
+  pub front : r.at ≡ 0
+  pub none : made r ≡ []
+
 -- the reader has gone on from e to x
 pub record Kept (e x : Reader) : Type 0 where
   pub same : bytes x ≡ bytes e
   pub on : e.at ≤ x.at
 
--- it has passed the token t, which is of the kind k, and noted nothing
-pub record Passed (e x : Reader) (k : Kind) (t : Token) : Type 0 where
-  pub upcoming : Upcoming e t
-  pub kind : t.kind ≡ k
+-- it has passed a token of the kind k, and noted nothing
+pub record Expected (e x : Reader) (k : Kind) : Type 0 where
+  pub token : Token
+  pub upcoming : Upcoming e token
+  pub kind : token.kind ≡ k
   pub same : bytes x ≡ bytes e
-  pub behind : x.at ≡ t.place + t.len
+  pub behind : x.at ≡ token.place + token.len
   pub made_same : made x ≡ made e
-
-abbrev pub Expected : Reader → Reader → Kind → Type 0
-Expected e x k = (t : Token) × Passed e x k t
 
 -- another token comes next
 pub record Unexpected (e : Reader) (k : Kind) (f : TextRefusal) : Type 0 where

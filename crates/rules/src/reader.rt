@@ -29,8 +29,18 @@ struct Reader<'a> {
 
 impl<'a> Reader<'a> {
     ghost use Rattle.std.specs.Prelude.{◌≡◌, MatchOption};
-    ghost use Rattle.rules.specs.Readers.{left, front, Upcoming, Expected, Unexpected, Noted, NoteFails, Begun, BeginFails, Joined, Unjoined, StepRead, StepFails, PredicateRead, PredicateFails, PathRead, PathFails};
+    ghost use Rattle.rules.specs.Readers.{Fresh, left, front, Upcoming, Expected, Unexpected, Noted, NoteFails, Begun, BeginFails, Joined, Unjoined, StepRead, StepFails, PredicateRead, PredicateFails, PathRead, PathFails};
     ghost use Rattle.rules.specs.declared.syntax.Kind.TheVariants.{Open};
+
+    fn new(text: &'a [u8]) -> Self
+        ensures { Fresh text.now result }
+    {
+        Reader {
+            text,
+            at: 0,
+            nodes: ArrayVec::new(),
+        }
+    }
 
     // The token that comes next.
     fn peek(&self) -> Token
@@ -142,11 +152,7 @@ pub fn parse(text: &[u8]) -> Result<ArrayVec<ParsedNode, RULE_NODES>, TextRefusa
     if text.is_empty() || text.len() > TEXT_LIMIT {
         return Err(TextRefusal::Length);
     }
-    let mut reader = Reader {
-        text,
-        at: 0,
-        nodes: ArrayVec::new(),
-    };
+    let mut reader = Reader::new(text);
     reader.expect(Kind::DoubleSlash)?;
     reader.step(0, Edge::Child, BRACKETS)?;
     reader.expect(Kind::End)?;
