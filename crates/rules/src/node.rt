@@ -15,3 +15,12 @@ pub struct RuleNode {
     pub edge: Edge,
     pub any: bool,
 }
+
+impl RuleNode {
+    // A root that every label meets.
+    pub(crate) const ANY: RuleNode = RuleNode {
+        parent: 0,
+        edge: Edge::Child,
+        any: true,
+    };
+}

@@ -8,7 +8,7 @@ ghost use Rattle.rules.specs.Expression.{is_star, rule_nodes_of};
 ghost use Rattle.rules.specs.Naming.{NamesIn, ReadInto, Reason, Unread, OnlyRule, Unreadable};
 ghost use Rattle.rules.specs.Refusals.{number, place};
 
-use crate::node::{Edge, RuleNode};
+use crate::node::RuleNode;
 use crate::reader::parse;
 use crate::refusal::TextRefusal;
 use crate::rule::{RULE_NODES, Rule};
@@ -33,12 +33,7 @@ fn rule_of(nodes: &[ParsedNode]) -> Rule
     requires ordered { Ordered (rule_nodes_of nodes.now) }
     ensures { rule_nodes result ≡ rule_nodes_of nodes.now }
 {
-    let blank = RuleNode {
-        parent: 0,
-        edge: Edge::Child,
-        any: false,
-    };
-    let mut made = [blank; RULE_NODES];
+    let mut made = [RuleNode::ANY; RULE_NODES];
     for (i, node) in nodes.iter().enumerate() {
         made[i] = RuleNode {
             parent: node.parent,
