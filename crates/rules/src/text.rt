@@ -4,7 +4,7 @@ ghost use Rattle.std.specs.List.{AllByRecursion};
 ghost use Rattle.rules.specs.Parsing.{Lies};
 ghost use Rattle.rules.specs.Rule.{Rooted, Ordered};
 ghost use Rattle.rules.specs.Nodes.{rule_nodes};
-ghost use Rattle.rules.specs.Expression.{is_star, rule_nodes_of};
+ghost use Rattle.rules.specs.Expression.{rule_nodes_of};
 ghost use Rattle.rules.specs.Naming.{NamesIn, ReadInto, Reason, Unread, OnlyRule, Unreadable};
 ghost use Rattle.rules.specs.Refusals.{number, place};
 
@@ -15,13 +15,17 @@ use crate::rule::{RULE_NODES, Rule};
 use crate::syntax::{Kind, ParsedNode};
 use labels::kind::NameLabel;
 
-// Whether the test is `*`.
-fn is_any(kind: Kind) -> bool
-    ensures { result ≡ is_star kind }
-{
-    match kind {
-        Kind::Star => true,
-        _ => false,
+impl From<ParsedNode> for RuleNode {
+    ghost use Rattle.rules.specs.Expression.{plain};
+
+    ghost from_gives = { λ n r. r ≡ plain n };
+
+    fn from(node: ParsedNode) -> RuleNode {
+        RuleNode {
+            parent: node.parent,
+            edge: node.edge,
+            any: node.test.kind == Kind::Star,
+        }
     }
 }
 
@@ -34,12 +38,9 @@ fn rule_of(nodes: &[ParsedNode]) -> Rule
     ensures { rule_nodes result ≡ rule_nodes_of nodes.now }
 {
     let mut made = [RuleNode::ANY; RULE_NODES];
+    // By index: of what a zip over `iter_mut` writes, no proof knows anything.
     for (i, node) in nodes.iter().enumerate() {
-        made[i] = RuleNode {
-            parent: node.parent,
-            edge: node.edge,
-            any: is_any(node.test.kind),
-        };
+        made[i] = RuleNode::from(*node);
     }
     Rule {
         nodes: made,
@@ -53,15 +54,12 @@ fn write_names<N: NameLabel>(text: &[u8], nodes: &[ParsedNode], names: &mut [N])
     requires lie { AllByRecursion (Lies text.now) nodes.now }
     ensures { NamesIn N.spelled text.now nodes.now names.old names.new }
 {
+    // By index, as in `rule_of`.
     for (i, node) in nodes.iter().enumerate() {
         let test = node.test;
-        match test.kind {
-            Kind::Name => {
-                let place = test.place;
-                let end = place + test.len;
-                names[i] = N::from_name(&text[place..end]);
-            }
-            _ => {}
+        if test.kind == Kind::Name {
+            let end = test.place + test.len;
+            names[i] = N::from_name(&text[test.place..end]);
         }
     }
 }
