@@ -37,33 +37,15 @@ fn token_at(text: &[u8], place: usize) -> Token
     requires seen { white (slice_index text.now place) ≡ false }
     ensures { Next text.now place result }
 {
-    if let Some(end) = name_stop(text, place) {
-        return Token {
-            kind: Kind::Name,
-            place,
-            len: end - place,
-        };
-    }
-    let b = text[place];
-    if b == b'/' {
-        if place + 1 < text.len() && text[place + 1] == b'/' {
-            return Token {
-                kind: Kind::DoubleSlash,
-                place,
-                len: 2,
-            };
-        }
-        return Token {
-            kind: Kind::Slash,
-            place,
-            len: 1,
-        };
-    }
-    Token {
-        kind: mark_kind(b),
-        place,
-        len: 1,
-    }
+    let (kind, len) = match name_stop(text, place) {
+        Some(end) => (Kind::Name, end - place),
+        None => match &text[place..] {
+            [b'/', b'/', ..] => (Kind::DoubleSlash, 2),
+            [b'/', ..] => (Kind::Slash, 1),
+            _ => (mark_kind(text[place]), 1),
+        },
+    };
+    Token { kind, place, len }
 }
 
 // The first token from `at` on; at the end of the text it is the end.
