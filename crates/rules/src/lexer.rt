@@ -1,7 +1,7 @@
 // The tokens of a rule text.
 ghost use Rattle.std.specs.Prelude.{◌≡◌, ◌<◌, ◌≤◌, false, length, MatchOption, slice_index};
 ghost use Rattle.labels.specs.Spelling.{white, starts, byte, Named};
-ghost use Rattle.rules.specs.Machine.{mark, Next};
+ghost use Rattle.rules.specs.Machine.{Next};
 
 use crate::syntax::{Kind, Token};
 use labels::spelling::{NoName, name_end, white_end};
@@ -18,19 +18,6 @@ fn name_stop(text: &[u8], place: usize) -> Option<usize>
     }
 }
 
-// The kind of a byte that is a token by itself, or no token.
-fn mark_kind(b: u8) -> Kind
-    ensures { result ≡ mark b }
-{
-    match b {
-        b'.' => Kind::Dot,
-        b'[' => Kind::Open,
-        b']' => Kind::Close,
-        b'*' => Kind::Star,
-        _ => Kind::Stray,
-    }
-}
-
 // The token that starts with the byte at `place`, which is no white space.
 fn token_at(text: &[u8], place: usize) -> Token
     requires within { place < length text.now }
@@ -42,7 +29,11 @@ fn token_at(text: &[u8], place: usize) -> Token
         None => match &text[place..] {
             [b'/', b'/', ..] => (Kind::DoubleSlash, 2),
             [b'/', ..] => (Kind::Slash, 1),
-            _ => (mark_kind(text[place]), 1),
+            [b'.', ..] => (Kind::Dot, 1),
+            [b'[', ..] => (Kind::Open, 1),
+            [b']', ..] => (Kind::Close, 1),
+            [b'*', ..] => (Kind::Star, 1),
+            _ => (Kind::Stray, 1),
         },
     };
     Token { kind, place, len }
