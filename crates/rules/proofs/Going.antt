@@ -7,13 +7,12 @@ use Rattle.rules.specs.declared.reader.Reader.{Reader}
 use Rattle.rules.specs.declared.refusal.TextRefusal.{TextRefusal}
 use Rattle.rules.specs.declared.syntax.Kind.{Kind}
 use Rattle.rules.specs.declared.syntax.Kind.TheVariants.{DoubleSlash, Slash, Dot, Open, Close, Star, Name, Stray, End}
-use Rattle.rules.specs.declared.syntax.Token.{Token}
 use Rattle.rules.specs.declared.syntax.ParsedNode.{ParsedNode}
 use Rattle.rules.specs.declared.node.Edge.{Edge}
 use Rattle.rules.specs.declared.node.Edge.TheVariants.{Child}
 use Rattle.rules.specs.Machine.{lex, start, root, after, more, on_double, on_after, stuck, on_test, with_node, over, go, run, from, accepts}
 use Rattle.rules.specs.Answer.{Unfit, IsRefused, unfit}
-use Rattle.rules.specs.Parsing.{Lies, Parses, ParseFails}
+use Rattle.rules.specs.Parsing.{Lies, Parses}
 use Rattle.rules.proofs.Answering.{fit, turns_away, accepting}
 use Rattle.rules.specs.Readers.{told, bytes, left, made, front, Unopened, Fresh, Kept, Expected, Unexpected, Enters, first, Begun, Joined, Room, StepRead, StepFails, PathFails}
 

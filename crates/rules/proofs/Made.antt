@@ -1,9 +1,9 @@
 -- The rule nodes of a text, made one after another.
-use Rattle.std.proofs.Common.{◌≡◌, ℕ, ◌+◌, ◌<◌, ◌≤◌, Bool, List, [], ◌∷◌, ◌++◌, length, get_or, take, set, sym, ap, ◌∙◌, arith}
+use Rattle.std.proofs.Common.{◌≡◌, ℕ, ◌+◌, ◌<◌, ◌≤◌, List, [], ◌∷◌, ◌++◌, length, get_or, take, set, sym, ap, ◌∙◌, arith}
 use Rattle.std.proofs.lemmas.List.{take_all, take_more, take_more_set, map-append}
 use Rattle.rules.specs.declared.node.RuleNode.{RuleNode}
 use Rattle.rules.specs.declared.syntax.ParsedNode.{ParsedNode}
-use Rattle.rules.specs.Expression.{is_star, plain, rule_nodes_of}
+use Rattle.rules.specs.Expression.{plain, rule_nodes_of}
 
 pub make_more : (made : List RuleNode) (ns : List ParsedNode) (i : ℕ) (d : ParsedNode) (n : RuleNode) → i < length ns → i < length made
     → n ≡ plain (get_or ns i d) → take i made ≡ rule_nodes_of (take i ns)

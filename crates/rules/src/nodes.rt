@@ -21,6 +21,6 @@ impl Rule {
     pub fn nodes(&self) -> &[RuleNode]
         ensures { result.now ≡ rule_nodes self.now }
     {
-        &self.nodes[0..self.len]
+        &self.nodes[..self.len]
     }
 }

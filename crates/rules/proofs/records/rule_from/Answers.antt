@@ -1,5 +1,5 @@
 use Rattle.rules.specs.declared.refusal.RecordRefusal.TheVariants.{Bad}
-use Rattle.std.proofs.Common.{◌≡◌, length, ◌∙◌, arith}
+use Rattle.std.proofs.Common.{◌≡◌, ◌∙◌, arith}
 use Rattle.std.proofs.lemmas.List.{length-set}
 use Rattle.std.proofs.lemmas.Bool.Decides.{nat_tests}
 use Rattle.std.proofs.lemmas.Result.{err_from_is_err_and}
@@ -17,8 +17,8 @@ returns-then-not-is_empty c =
 pub returns-in_err-nodes : goal.returns-in_err-nodes
 returns-in_err-nodes c =
     let p = err_from_is_err_and c.from_residual.result c.from_residual.ensures.1 in
-    let all = whole _ _ _ c.as_chunks.ensures.front_len c.as_chunks.ensures.back_len c.if-not-is_empty.ensures c.if-len-eq0.false c.if-len-gt-RULE_NODES.false in
     let which : c.in_err-nodes.field-0.0 ≡ Bad c.loop-number.number = let e = rw c.in_err-nodes.ensures.ok_part at c.in_err-nodes.ensures.value in cc in
+    let all = whole _ _ _ c.as_chunks.ensures.front_len c.as_chunks.ensures.back_len c.if-not-is_empty.ensures c.if-len-eq0.false c.if-len-gt-RULE_NODES.false in
     let none = rw c.in_err-nodes.ensures.ok_part at c.node_of.ensures in
     rw (p.1, p.2, which) (
     unset_sole (first_bad _ _ c.loop-number.nodes _ all c.as_chunks.ensures.front c.as_chunks.ensures.front_len c.loop-number-test.true c.loop-number.invariant.1 none))

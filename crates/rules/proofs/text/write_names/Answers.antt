@@ -1,5 +1,4 @@
 use Rattle.std.proofs.Common.{◌≡◌, ℕ, ◌+◌, ◌-◌, List, get_or, take, drop, sym, refl, ◌∙◌, subst, arith, length-take, rules}
-use Rattle.std.proofs.lemmas.List.{take_all}
 use Rattle.rules.specs.declared.syntax.ParsedNode.{ParsedNode}
 use Rattle.labels.specs.Spelling.{kept_name}
 use Rattle.labels.specs.NameLaws.{kept_short}
