@@ -1,7 +1,7 @@
 -- What the readers of path, step and predicate do, as moves of the machine: the contracts of private functions.
 use Rattle.std.specs.Prelude.{◌≡◌, ℕ, ◌+◌, ◌<◌, ◌≤◌, List, [], ◌∷◌, length, ◌≢◌}
 use Rattle.rules.specs.declared.syntax.Kind.{Kind}
-use Rattle.rules.specs.declared.syntax.Kind.TheVariants.{DoubleSlash, Slash, Dot, Open, Close, Star, Name, Stray, End}
+use Rattle.rules.specs.declared.syntax.Kind.TheVariants.{DoubleSlash, Slash, Open, End}
 use Rattle.rules.specs.declared.syntax.Token.{Token}
 use Rattle.rules.specs.declared.node.Edge.{Edge}
 use Rattle.rules.specs.declared.node.Edge.TheVariants.{Child, Descendant}
@@ -39,27 +39,15 @@ front (t ∷ ts) = t.kind
 
 -- what stands behind a step with its predicates is no `[`
 abbrev pub Unopened : Kind → Type 0
-Unopened DoubleSlash = Unit {0}
-Unopened Slash = Unit {0}
-Unopened Dot = Unit {0}
 Unopened Open = ⊥
-Unopened Close = Unit {0}
-Unopened Star = Unit {0}
-Unopened Name = Unit {0}
-Unopened Stray = Unit {0}
-Unopened End = Unit {0}
+Unopened _ = Unit {0}
 
 -- nor is what stands behind a path, and no `/` or `//` either
 abbrev pub Ended : Kind → Type 0
 Ended DoubleSlash = ⊥
 Ended Slash = ⊥
-Ended Dot = Unit {0}
 Ended Open = ⊥
-Ended Close = Unit {0}
-Ended Star = Unit {0}
-Ended Name = Unit {0}
-Ended Stray = Unit {0}
-Ended End = Unit {0}
+Ended _ = Unit {0}
 
 -- the reader stands at the front of the text bs, and has noted nothing
 pub record Fresh (bs : List ℕ) (r : Reader) : Type 0 where
