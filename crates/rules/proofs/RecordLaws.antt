@@ -19,13 +19,6 @@ use Rattle.rules.specs.Exact.{Sole}
 use Rattle.rules.proofs.Sole.{sole}
 use Rattle.rules.specs.Records.{EdgeByte, child, descendant, EdgeFrom, AnyByte, named, any, Hangs, root, under, Writes, writes, RecordWrites, RecordAt, Whole, Recorded, RecordReason, size, bad}
 
-edge_number : {e : ℕ} {edge : Edge} → EdgeByte e edge → e < 2
-edge_number child = omega arith
-edge_number descendant = omega arith
-
-pub no_edge : (e : ℕ) → (e ≡ 0 → ⊥) → (e ≡ 1 → ⊥) → (edge : Edge) → EdgeByte e edge → ⊥
-no_edge e z o edge h = let l = edge_number h in elim (cases_lt e 1) [ inl a ↦ z (omega arith) | inr a ↦ o (omega arith) ]
-
 any_number : {a : ℕ} {b : Bool} → AnyByte a b → a < 2
 any_number named = omega arith
 any_number any = omega arith
@@ -114,13 +107,7 @@ set_sole r = sole (λ y z. each_same) (λ y z. recorded_or_not) r
 pub unset_sole : {bs : List ℕ} {x : ℕ × Option ℕ} → RecordReason bs x → Sole (RecordReason bs) (Recorded bs) x
 unset_sole r = sole (λ y z. reason_same) (λ y z q g. recorded_or_not g q) r
 
--- nothing is written without an edge, a mark and a place to hang
-pub unwritten_edge : {i p e a : ℕ} → ((edge : Edge) → EdgeByte e edge → ⊥) → (n : RuleNode) → Writes i p e a n → ⊥
-unwritten_edge h n w = h n.edge (parts w).edge
-
-pub unwritten_any : {i p e a : ℕ} → ((any : Bool) → AnyByte a any → ⊥) → (n : RuleNode) → Writes i p e a n → ⊥
-unwritten_any h n w = h n.any (parts w).any
-
+-- nothing is written without a place to hang
 pub unwritten_place : {i p e a : ℕ} {edge : Edge} → EdgeByte e edge → (Hangs i p edge → ⊥) → (n : RuleNode) → Writes i p e a n → ⊥
 unwritten_place {i} {p} {edge = edge} b h n w = h (subst (λ (x : Edge). Hangs i p x) (edge_same (parts w).edge b) (parts w).hangs)
 

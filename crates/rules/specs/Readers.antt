@@ -9,6 +9,7 @@ use Rattle.rules.specs.declared.syntax.ParsedNode.{ParsedNode}
 use Rattle.rules.specs.declared.refusal.TextRefusal.{TextRefusal}
 use Rattle.rules.specs.declared.refusal.TextRefusal.TheVariants.{ShortList, Length, NotAllowed, LongName, ManyTests, DeepBracket}
 use Rattle.rules.specs.declared.reader.Reader.{Reader}
+use Rattle.rules.specs.Limits.{bracket_limit}
 use Rattle.rules.specs.Machine.{State, after, opened, below, more, Answer, refuses, on_test, with_node, move, nodes, run, from, Next}
 
 abbrev pub told : TextRefusal → Answer
@@ -113,7 +114,7 @@ pub record Unjoined (e x : Reader) : Type 0 where
 
 -- the brackets that may still be opened are `room`
 abbrev pub Room : List ℕ → ℕ → Type 0
-Room outer room = length outer + room ≡ 16
+Room outer room = length outer + room ≡ bracket_limit
 
 pub record StepRead (e x : Reader) (p : ℕ) (edge : Edge) (room n : ℕ) : Type 0 where
   pub kept : Kept e x

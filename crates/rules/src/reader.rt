@@ -32,6 +32,7 @@ impl<'a> Reader<'a> {
     ghost use Rattle.rules.specs.Readers.{Fresh, left, front, Upcoming, Expected, Unexpected, Noted, NoteFails, Begun, BeginFails, Joined, Unjoined, StepRead, StepFails, PredicateRead, PredicateFails, PathRead, PathFails};
     ghost use Rattle.rules.specs.declared.syntax.Kind.TheVariants.{Open};
 
+    // At the front of the text.
     fn new(text: &'a [u8]) -> Self
         ensures { Fresh text.now result }
     {
@@ -108,6 +109,7 @@ impl<'a> Reader<'a> {
         Some(edge)
     }
 
+    // Reads a path in a predicate of the step `n`, where so many brackets may still be opened.
     #[cycle(path_predicate_step)]
     fn path(&mut self, n: usize, room: usize) -> Result<(), TextRefusal>
         ensures { MatchResult result (λ _. PathRead self.old self.new n room) (PathFails self.old n room) }
@@ -120,6 +122,7 @@ impl<'a> Reader<'a> {
         Ok(())
     }
 
+    // Reads a step with its predicates, and answers its number.
     #[cycle(path_predicate_step)]
     fn step(&mut self, parent: usize, edge: Edge, room: usize) -> Result<usize, TextRefusal>
         ensures { MatchResult result (StepRead self.old self.new parent edge room) (StepFails self.old parent edge room) }
@@ -131,6 +134,7 @@ impl<'a> Reader<'a> {
         Ok(number)
     }
 
+    // Reads a predicate of the step `n`, brackets and all.
     #[cycle(path_predicate_step)]
     fn predicate(&mut self, n: usize, room: usize) -> Result<(), TextRefusal>
         requires { front (left self.old) ≡ Open }
