@@ -29,7 +29,7 @@ impl TryFrom<u8> for Edge {
     }
 }
 
-// Whether the test is any, unless the byte means neither.
+// Whether the test is any, unless the byte means neither. A function, since neither type is of this crate.
 fn any_of(byte: u8) -> Option<bool>
     ensures { MatchOption result ((any : Bool) → AnyByte byte any → ⊥) (AnyByte byte) }
 {
