@@ -1,19 +1,20 @@
 -- The loops of the readers, and how their steps join. Assumes nothing.
-use Rattle.std.proofs.Common.{◌≡◌, ℕ, ◌+◌, ◌-◌, ◌<◌, ◌≤◌, ◌⊎◌, List, [], ◌∷◌, ◌++◌, length, take, set, sym, refl, ap, ◌∙◌, subst, inl, inr, arith}
-use Rattle.rules.specs.declared.syntax.Token.{Token}
+use Rattle.std.proofs.lemmas.Bool.{eqb-false}
+use Rattle.rules.specs.Refusals.{number, place}
+use Rattle.std.proofs.Common.{false, eqb, ◌<◌, ◌≤◌, inl, inr, ◌≡◌, ℕ, ◌+◌, ◌-◌, List, [], ◌∷◌, length, sym, refl, ap, ◌∙◌, subst, rules}
+use Rattle.std.specs.List.{AllByRecursion}
 use Rattle.rules.specs.declared.reader.Reader.{Reader}
 use Rattle.rules.specs.declared.refusal.TextRefusal.{TextRefusal}
-use Rattle.std.proofs.lemmas.List.{length-set, take_more_set, length-take-le}
-use Rattle.std.proofs.lemmas.Bool.Decides.{nat_tests}
-use Rattle.std.specs.List.{AllByRecursion}
-use Rattle.std.proofs.slice.Lists.{all_by_recursion_push}
 use Rattle.rules.specs.declared.syntax.Kind.{Kind}
 use Rattle.rules.specs.declared.syntax.Kind.TheVariants.{DoubleSlash, Slash, Dot, Open, Close, Star, Name, Stray, End}
+use Rattle.rules.specs.declared.syntax.ParsedNode.{ParsedNode}
 use Rattle.rules.specs.declared.node.Edge.{Edge}
 use Rattle.rules.specs.declared.node.Edge.TheVariants.{Child}
-use Rattle.rules.specs.Grammar.{node}
-use Rattle.rules.specs.Machine.{State, start, root, after, more, on_double, on_after, refuses, to, stuck, on_test, with_node, nodes, depth, over, excess, go, run, from}
-use Rattle.rules.specs.Readers.{bytes, left, made, Lies, Sound, Upcoming, front, Unopened, Kept, Room, Enters, Noted, first, Begun, Joined, StepRead, StepFails, PathFails, WholeRead, WholeFails}
+use Rattle.rules.specs.Machine.{lex, start, root, after, more, on_double, on_after, stuck, on_test, with_node, over, go, run, from, accepts}
+use Rattle.rules.specs.Answer.{Unfit, IsRefused, unfit}
+use Rattle.rules.specs.Parsing.{Lies, Parses}
+use Rattle.rules.proofs.Answering.{fit, turns_away, accepting}
+use Rattle.rules.specs.Readers.{told, bytes, left, made, front, Unopened, Fresh, Kept, Expected, Unexpected, Enters, first, Begun, Joined, Room, StepRead, StepFails, PathFails}
 
 -- the bytes that are not read yet
 abbrev pub unread : Reader → ℕ
@@ -26,119 +27,103 @@ pub record Along (e : Reader) (first : ℕ) (x : Reader) (last room : ℕ) : Typ
   pub leads : (k : ℕ) (outer : List ℕ) → Room (k ∷ outer) room → run (left e) (after first (k ∷ outer) (made e)) ≡ run (left x) (after last (k ∷ outer) (made x))
 
 -- over the predicates of a step
-pub record Past (e x : Reader) (t : Token) (n room : ℕ) : Type 0 where
+pub record Past (e x : Reader) (n room : ℕ) : Type 0 where
   pub kept : Kept e x
-  pub upcoming : Upcoming x t
   pub leads : (outer : List ℕ) → Room outer room → run (left e) (after n outer (made e)) ≡ run (left x) (after n outer (made x))
 
--- a test that passes no limit
-abbrev pub Fair : Token → Type 0
-Fair t = ((t.kind ≡ Name) × (t.len ≤ 32)) ⊎ (t.kind ≡ Star)
-
-fair_moves : (t : Token) (n deep : ℕ) (s : State) → Fair t → n < 64 → (on_test t.kind s ≡ to s) × (over t.kind t.len n deep ≡ 0) × (t.kind ≡ End → ⊥)
-fair_moves t n deep s (inl both) h =
-    let (q, short) = both in (
-      ap (λ k. on_test k s) q,
-      ap (λ k. over k t.len n deep) q ∙ grind (arith, nat_tests),
-      λ e. let z : ◌≡◌ {A = ℕ} 0 1 = cc in omega arith,
-    )
-fair_moves t n deep s (inr q) h = (
-  ap (λ k. on_test k s) q,
-  ap (λ k. over k t.len n deep) q ∙ grind (arith, nat_tests),
-  λ e. let z : ◌≡◌ {A = ℕ} 0 1 = cc in omega arith,
-)
-
-fair_short : (t : Token) → Fair t → t.kind ≡ Name → t.len ≤ 32
-fair_short t (inl h) q = h.1
-fair_short t (inr h) q = let z : ◌≡◌ {A = ℕ} 0 1 = cc in absurd (omega arith)
-
--- the reader behind a test that it noted
-abbrev pub noting : Reader → Token → ℕ → Edge → Reader
-noting e t p edge = record { text = e.text; at = t.place + t.len; count = e.count + 1; nodes = set e.nodes e.count (node p edge t) }
-
-pub noted : (e : Reader) (t : Token) (p : ℕ) (edge : Edge) → Sound e → Upcoming e t → e.count < 64 → Fair t → Noted e (noting e t p edge) t p edge e.count
-noted e t p edge sound up few fair =
-    let long : length (made e) ≡ e.count = length-take-le e.count e.nodes (omega (arith, sound.room)) in
-    let real = (fair_moves t 0 0 (with_node p edge [] [] t) fair (omega arith)).2 in
-    let some = up.some real in
-    let grown : take (e.count + 1) (set e.nodes e.count (node p edge t)) ≡ made e ++ (node p edge t ∷ []) =
-    take_more_set e.nodes e.count (node p edge t) (omega (arith, sound.room)) in
-    record {
-      kept = record { same = refl; on = omega (arith, up.late); sound = record { lies = subst (AllByRecursion (Lies (bytes e))) (sym grown) (all_by_recursion_push (Lies (bytes e)) (made e) (node p edge t) sound.lies (up.within, fair_short t fair)); within = up.within; few = omega arith; room = length-set e.nodes e.count _ ∙ sound.room } };
-      further = omega (arith, up.late);
-      leads = λ outer s en.
-          let size : length (nodes s) < 64 = omega (arith, ap length en.nodes_are, long) in
-          let (passes, small, _) = fair_moves t (length (nodes s)) (depth s) (with_node p edge outer (made e) t) fair size in
-          ap (λ ts. run ts s) (up.on real)
-          ∙ ap (λ m. go m (excess s t) t.place (λ u. run (from (bytes e) (t.place + t.len)) u)) (en.moves_on ∙ passes)
-          ∙ ap (λ x. go (to (with_node p edge outer (made e) t)) x t.place (λ u. run (from (bytes e) (t.place + t.len)) u)) small
-          ∙ ap (λ n. run (from (bytes e) (t.place + t.len)) (after n outer (made e ++ (node p edge t ∷ [])))) long
-          ∙ ap (λ ns. run (from (bytes e) (t.place + t.len)) (after e.count outer ns)) (sym grown);
-    }
-
 -- a path whose first step fails
-pub first_fails : {e x : Reader} {test : Token} {edge : Edge} (n room : ℕ) (f : TextRefusal) → Begun e x test edge → StepFails x test n edge room f → PathFails e n room f
-first_fails {e} {x} {test} {edge} n room f b s outer fits =
-    b.leads n outer (made e) ∙ ap (λ ns. run (left x) (first edge n outer ns)) (sym b.made_same)
-    ∙ s (n ∷ outer) (first edge n outer (made x)) fits (b.enters n outer (made x))
+pub first_fails : {e x : Reader} {edge : Edge} (n room : ℕ) (f : TextRefusal) → Begun e x edge → StepFails x n edge room f → PathFails e n room f
+first_fails {x = x} {edge = edge} n room f b s outer fits = b.leads n outer ∙ s (n ∷ outer) (first edge n outer (made x)) fits (b.enters n outer)
 
 -- a path of which a further step fails
-pub further_fails : {e x y z w : Reader} {test next : Token} {edge edge' : Edge} {m last : ℕ} (n room : ℕ) (f : TextRefusal)
-    → Begun e x test edge → StepRead x y test n edge room m → Along y m z last room → Joined z w edge' → StepFails w next last edge' room f → PathFails e n room f
-further_fails {e} {x} {y} {z} {w} {test} {next} {edge} {edge'} {m} {last} n room f b s a j g outer fits =
-    b.leads n outer (made e) ∙ ap (λ ns. run (left x) (first edge n outer ns)) (sym b.made_same)
-    ∙ s.leads (n ∷ outer) (first edge n outer (made x)) fits (b.enters n outer (made x))
-    ∙ a.leads n outer fits
-    ∙ j.leads last n outer (made z) ∙ ap (λ ns. run (left w) (more edge' last n outer ns)) (sym j.made_same)
-    ∙ g (n ∷ outer) (more edge' last n outer (made w)) fits (record { nodes_are = refl; moves_on = refl })
+pub further_fails : {e x y z w : Reader} {edge edge' : Edge} {m last : ℕ} (n room : ℕ) (f : TextRefusal)
+    → Begun e x edge → StepRead x y n edge room m → Along y m z last room → Joined z w edge' → StepFails w last edge' room f → PathFails e n room f
+further_fails {x = x} {w = w} {edge = edge} {edge' = edge'} {last = last} n room f b s a j g outer fits =
+    b.leads n outer ∙ s.leads (n ∷ outer) (first edge n outer (made x)) fits (b.enters n outer) ∙ a.leads n outer fits ∙ j.leads last n outer
+    ∙ g (n ∷ outer) (more edge' last n outer (made w)) fits (record { nodes_are = refl; moves_on = λ t _. refl })
 
 ------------------------------------------------------------------------
 -- the whole text
 
--- the reader behind a token
-abbrev pub passing : Reader → Token → Reader
-passing e t = record { text = e.text; at = t.place + t.len; count = e.count; nodes = e.nodes }
+-- what the text is refused for, from the number of its bytes
+pub empty_fails : (bs : List ℕ) → length bs ≡ 0 → IsRefused bs 10 0
+empty_fails bs h = unfit (inl h)
 
-none_made : (e : Reader) → e.count ≡ 0 → made e ≡ []
-none_made e z = ap (λ n. take n e.nodes) z
+pub long_fails : (bs : List ℕ) → 1024 < length bs → IsRefused bs 10 0
+long_fails bs h = unfit (inr h)
 
-module _ (e : Reader) (d test : Token) (new : e.count ≡ 0) (up : Upcoming e d) (slashes : d.kind ≡ DoubleSlash) where
-  to_root : run (left e) start ≡ run (left (passing e d)) root
-  to_root =
-      let real : d.kind ≡ End → ⊥ = λ q. let z : ◌≡◌ {A = ℕ} 0 1 = cc in omega arith in
-      ap (λ ts. run ts start) (up.on real)
-      ∙ ap (λ k. go (on_double k root) (over k d.len 0 0) d.place (λ u. run (left (passing e d)) u)) slashes
+-- a token that is not the last stands before those that are left behind it
+passed_on : {e x : Reader} {k : Kind} (p : Expected e x k) → (k ≡ End → ⊥) → left e ≡ p.token ∷ left x
+passed_on p real = p.upcoming.on (λ q. real (sym p.kind ∙ q)) ∙ (λ i. p.token ∷ from (sym p.same i) (sym p.behind i))
 
-  at_root : Enters root test 0 Child [] (made (passing e d))
-  at_root =
-      let none = none_made e new in
-      record { nodes_are = sym none; moves_on = ap (λ ns. on_test test.kind (with_node 0 Child [] ns test)) (sym none) }
+-- the text bs has been read as far as behind its step
+pub record Stepped (bs : List ℕ) (y : Reader) : Type 0 where
+  pub fits : Unfit bs → ⊥
+  pub same : bytes y ≡ bs
+  pub stops : Unopened (front (left y))
+  pub leads : (n : ℕ) × (run (lex 0 0 bs) start ≡ run (left y) (after n [] (made y)))
 
-  pub step_fails : (f : TextRefusal) → StepFails (passing e d) test 0 Child 16 f → WholeFails e f
-  step_fails f s = to_root ∙ s [] root refl at_root
+module _ (bs : List ℕ) (e : Reader) (new : Fresh bs e) (some : false ≡ eqb (length bs) 0) (few : length bs ≤ 1024) where
+  fits : Unfit bs → ⊥
+  fits = fit bs (eqb-false _ 0 (sym some)) few
 
-  module _ (x : Reader) (n : ℕ) (s : StepRead (passing e d) x test 0 Child 16 n) (t : Token) (last : Upcoming x t) where
-    pub whole_read : t.kind ≡ End → WholeRead e x
-    whole_read end =
-        record {
-          kept = record { same = s.kept.same; on = omega (arith, up.late, s.kept.on); sound = s.kept.sound };
-          leads = to_root ∙ s.leads [] root refl at_root ∙ ap (λ ts. run ts (after n [] (made x))) (last.done end)
-              ∙ ap (λ k. go (on_after k n [] (made x)) (over k t.len (length (made x)) 0) t.place (λ u. run [] u)) end;
-        }
+  all_left : lex 0 0 bs ≡ left e
+  all_left i = from (sym new.whole i) (sym new.front i)
 
-    pub end_fails : (t.kind ≡ End → ⊥) → run (left e) start ≡ refuses 11 t.place
-    end_fails real =
-        let stops : Unopened t.kind = subst (λ ts. Unopened (front ts)) (last.on real) s.stops in
-        to_root ∙ s.leads [] root refl at_root ∙ ap (λ ts. run ts (after n [] (made x))) (last.on real)
-        ∙ ap (λ m. go m (over t.kind t.len (length (made x)) 0) t.place (λ u. run (from (bytes x) (t.place + t.len)) u)) (not_allowed t.kind stops real)
-      where
-        not_allowed : (k : Kind) → Unopened k → (k ≡ End → ⊥) → on_after k n [] (made x) ≡ stuck
-        not_allowed DoubleSlash u r = refl
-        not_allowed Slash u r = refl
-        not_allowed Dot u r = refl
-        not_allowed Open u r = absurd u
-        not_allowed Close u r = refl
-        not_allowed Star u r = refl
-        not_allowed Name u r = refl
-        not_allowed Stray u r = refl
-        not_allowed End u r = absurd (r refl)
+  -- no text begins with another token
+  pub start_fails : (f : TextRefusal) → Unexpected e DoubleSlash f → IsRefused bs (number f) (place f)
+  start_fails f h =
+      let here : run (left e) start ≡ told f = search rules in
+      turns_away bs f fits (ap (λ ts. run ts start) all_left ∙ here)
+
+  module _ (x : Reader) (p : Expected e x DoubleSlash) where
+    to_root : run (lex 0 0 bs) start ≡ run (left x) root
+    to_root =
+        ap (λ ts. run ts start) (all_left ∙ passed_on p (λ q. cc))
+        ∙ ap (λ k. go (on_double k root) (over k p.token.len 0 0) p.token.place (λ u. run (left x) u)) p.kind
+
+    at_root : Enters x root 0 Child []
+    at_root =
+        let nothing : [] ≡ made x = sym (p.made_same ∙ new.none) in
+        record { nodes_are = nothing; moves_on = λ t _. ap (λ ns. on_test t.kind (with_node 0 Child [] ns t)) nothing }
+
+    pub step_fails : (f : TextRefusal) → StepFails x 0 Child 16 f → IsRefused bs (number f) (place f)
+    step_fails f s = turns_away bs f fits (to_root ∙ s [] root refl at_root)
+
+    pub stepped : (y : Reader) (n : ℕ) → StepRead x y 0 Child 16 n → Stepped bs y
+    stepped y n s = record { fits = fits; same = s.kept.same ∙ p.same ∙ new.whole; stops = s.stops; leads = (n, to_root ∙ s.leads [] root refl at_root) }
+
+pub parses : {bs : List ℕ} {y z : Reader} → Stepped bs y → Expected y z End → Parses bs (made z)
+parses {bs} {y} {z} s q =
+    let t = q.token in
+    let n = s.leads.0 in
+    let all : run (lex 0 0 bs) start ≡ accepts (made z) =
+    s.leads.1 ∙ ap (λ ts. run ts (after n [] (made y))) (q.upcoming.done q.kind)
+    ∙ ap (λ k. go (on_after k n [] (made y)) (over k t.len (length (made y)) 0) t.place (λ u. run [] u)) q.kind ∙ ap accepts (sym q.made_same) in
+    record {
+      reads = accepting bs (made z) s.fits all;
+      lie = subst (λ bs. AllByRecursion (Lies bs) (made z)) (q.same ∙ s.same) z.lie;
+    }
+
+-- behind a step with its predicates, outside of brackets, only the end is allowed
+only_end : (k : Kind) (n : ℕ) (ns : List ParsedNode) → Unopened k → (k ≡ End → ⊥) → on_after k n [] ns ≡ stuck
+only_end DoubleSlash n ns u r = refl
+only_end Slash n ns u r = refl
+only_end Dot n ns u r = refl
+only_end Open n ns u r = absurd u
+only_end Close n ns u r = refl
+only_end Star n ns u r = refl
+only_end Name n ns u r = refl
+only_end Stray n ns u r = refl
+only_end End n ns u r = absurd (r refl)
+
+pub end_fails : (bs : List ℕ) (y : Reader) (f : TextRefusal) → Stepped bs y → Unexpected y End f → IsRefused bs (number f) (place f)
+end_fails bs y f s h =
+    let t = h.token in
+    let n = s.leads.0 in
+    let next = h.upcoming.on h.other in
+    turns_away bs f s.fits (
+    s.leads.1 ∙ ap (λ ts. run ts (after n [] (made y))) next
+    ∙ ap (λ m. go m (over t.kind t.len (length (made y)) 0) t.place (λ u. run (from (bytes y) (t.place + t.len)) u))
+    (only_end t.kind n (made y) (subst (λ ts. Unopened (front ts)) next s.stops) h.other)
+    ∙ ap told (sym h.refused))

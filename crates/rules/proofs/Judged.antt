@@ -108,9 +108,6 @@ name_open k p q = let z : ◌≡◌ {A = ℕ} 0 1 = ap is_open (sym p ∙ q) in 
 star_open : {X : Type 0} (k : Kind) → k ≡ Star → k ≡ Open → X
 star_open k p q = let z : ◌≡◌ {A = ℕ} 0 1 = ap is_open (sym p ∙ q) in absurd (omega arith)
 
-star_name : {X : Type 0} (k : Kind) → k ≡ Star → k ≡ Name → X
-star_name k p q = let z : ◌≡◌ {A = Kind} Star Name = sym p ∙ q in let y : ◌≡◌ {A = ℕ} 0 1 = cc in absurd (omega arith)
-
 module _ (before : List Token) (t : Token) (s : State) (tally : Tally before s) where
   fine : Begins (before ++ (t ∷ [])) → excess s t ≡ 0 → (k : ℕ) → Offends before t k → ⊥
   fine b e k (not_allowed h) = h b

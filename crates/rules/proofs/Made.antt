@@ -1,19 +1,16 @@
 -- The rule nodes of a text, made one after another.
-use Rattle.std.proofs.Common.{◌≡◌, ℕ, ◌+◌, ◌<◌, ◌≤◌, Bool, List, [], ◌∷◌, ◌++◌, length, get_or, take, set, sym, ap, ◌∙◌, arith}
+use Rattle.std.proofs.Common.{◌≡◌, ℕ, ◌+◌, ◌<◌, ◌≤◌, List, [], ◌∷◌, ◌++◌, length, get_or, take, set, sym, ap, ◌∙◌, arith}
 use Rattle.std.proofs.lemmas.List.{take_all, take_more, take_more_set, map-append}
 use Rattle.rules.specs.declared.node.RuleNode.{RuleNode}
 use Rattle.rules.specs.declared.syntax.ParsedNode.{ParsedNode}
-use Rattle.rules.specs.Expression.{is_star, plain, rule_nodes_of}
+use Rattle.rules.specs.Expression.{plain, rule_nodes_of}
 
-abbrev made_node : ParsedNode → Bool → RuleNode
-made_node n any = record { parent = n.parent; edge = n.edge; any = any }
-
-pub make_more : (made : List RuleNode) (ns : List ParsedNode) (i : ℕ) (d : ParsedNode) (any : Bool) → i < length ns → i < length made
-    → any ≡ is_star (get_or ns i d).test.kind → take i made ≡ rule_nodes_of (take i ns)
-    → take (i + 1) (set made i (made_node (get_or ns i d) any)) ≡ rule_nodes_of (take (i + 1) ns)
-make_more made ns i d any l m e h =
-    take_more_set made i (made_node (get_or ns i d) any) m
-    ∙ ap (λ (b : Bool). take i made ++ made_node (get_or ns i d) b ∷ []) e
+pub make_more : (made : List RuleNode) (ns : List ParsedNode) (i : ℕ) (d : ParsedNode) (n : RuleNode) → i < length ns → i < length made
+    → n ≡ plain (get_or ns i d) → take i made ≡ rule_nodes_of (take i ns)
+    → take (i + 1) (set made i n) ≡ rule_nodes_of (take (i + 1) ns)
+make_more made ns i d n l m e h =
+    take_more_set made i n m
+    ∙ ap (λ (n : RuleNode). take i made ++ n ∷ []) e
     ∙ ap (λ (xs : List RuleNode). xs ++ plain (get_or ns i d) ∷ []) h
     ∙ sym (map-append plain (take i ns) (get_or ns i d ∷ []))
     ∙ ap rule_nodes_of (sym (take_more ns i d l))

@@ -1,24 +1,23 @@
 -- Records and the rule nodes that they write.
-use Rattle.std.proofs.Common.{◌≡◌, ℕ, ◌+◌, ◌/◌, ◌%◌, ◌<◌, ◌≤◌, Bool, true, false, eqb, List, length, get_or, take, set, Some, Decides, Option, sym, refl, ap, ◌∙◌, subst, inl, inr, arith}
-use Rattle.std.proofs.lemmas.List.{same_lists, length-take-le, get_or-take, get_or-set_same, get_or-set_other}
+use Rattle.std.proofs.Common.{◌≡◌, ℕ, zero, suc, ◌+◌, ◌*◌, ◌/◌, ◌%◌, ◌<◌, ◌≤◌, Bool, true, false, eqb, List, [], length, get_or, take, drop, set, Some, None, Decides, Option, Result, Ok, Err, sym, refl, ap, ◌∙◌, subst, inl, inr, arith, add-zero, below_more}
+use denote.Enum.Bare.{sameb}
+use Rattle.std.specs.Simd.{first_chunks}
+use Rattle.std.specs.Result.{result_ok}
+use Rattle.labels.specs.Spelling.{byte}
+use Rattle.std.proofs.lemmas.List.{same_lists, length-take-le, drop-drop, get_or-take, get_or-drop, get_or-set_same, get_or-set_other}
 use Rattle.std.proofs.lemmas.Option.{slice_get-get_or}
 use Rattle.std.proofs.lemmas.Bool.{cases_lt, eqb-true, false≢true}
 use Rattle.rules.specs.declared.node.Edge.{Edge}
 use Rattle.rules.specs.declared.node.Edge.TheVariants.{Child, Descendant}
+use Rattle.rules.specs.contracts.node.Edge.{the_type}
 use Rattle.rules.specs.declared.node.RuleNode.{RuleNode}
+use Rattle.rules.specs.declared.records.UnknownEdge.{UnknownEdge}
 use Rattle.rules.specs.Limits.{node_limit}
 use Rattle.rules.specs.Rule.{blank, is_child, Rooted, Ordered}
 use Rattle.rules.proofs.Selects.{slice_get_within}
 use Rattle.rules.specs.Exact.{Sole}
 use Rattle.rules.proofs.Sole.{sole}
-use Rattle.rules.specs.Records.{EdgeByte, child, descendant, AnyByte, named, any, Hangs, root, under, Writes, writes, RecordAt, Whole, Recorded, RecordReason, size, bad}
-
-edge_number : {e : ℕ} {edge : Edge} → EdgeByte e edge → e < 2
-edge_number child = omega arith
-edge_number descendant = omega arith
-
-pub no_edge : (e : ℕ) → (e ≡ 0 → ⊥) → (e ≡ 1 → ⊥) → (edge : Edge) → EdgeByte e edge → ⊥
-no_edge e z o edge h = let l = edge_number h in elim (cases_lt e 1) [ inl a ↦ z (omega arith) | inr a ↦ o (omega arith) ]
+use Rattle.rules.specs.Records.{EdgeByte, child, descendant, EdgeFrom, AnyByte, named, any, Hangs, root, under, Writes, writes, RecordWrites, RecordAt, Whole, Recorded, RecordReason, size, bad}
 
 any_number : {a : ℕ} {b : Bool} → AnyByte a b → a < 2
 any_number named = omega arith
@@ -46,24 +45,14 @@ hangs_root root = (refl, refl)
 hangs_root (under h) = absurd (omega arith)
 
 -- rule node 0 hangs nowhere but at itself, by a child edge
-pub root_hangs : (i p : ℕ) (edge : Edge) → i ≤ 0 → edge ≡ Child → Decides (eqb p 0) (Hangs i p edge)
-root_hangs i p edge l e =
+pub root_hangs : (i p : ℕ) (edge : Edge) (b : Bool) → i ≤ 0 → p ≡ 0 → b ≡ sameb the_type edge Child → Decides b (Hangs i p edge)
+root_hangs i p Child b l q e =
+    let z : 0 ≡ i = omega arith in ((λ _. subst (λ (j : ℕ). Hangs j p Child) z (subst (λ (j : ℕ). Hangs 0 j Child) (sym q) root)), λ _. e)
+root_hangs i p Descendant b l q e =
     let z : i ≡ 0 = omega arith in (
-      (λ b.
-          let q : p ≡ 0 = eqb-true p 0 b in
-          subst (λ (x : Edge). Hangs i p x) (sym e) (subst (λ (j : ℕ). Hangs j p Child) (sym z) (subst (λ (j : ℕ). Hangs 0 j Child) (sym q) root))),
-      λ h. ap (λ (j : ℕ). eqb j 0) (hangs_root (subst (λ (j : ℕ). Hangs j p edge) z h)).0,
+      (λ t. absurd (false≢true (sym e ∙ t))),
+      λ h. let d : Descendant ≡ Child = (hangs_root (subst (λ (j : ℕ). Hangs j p Descendant) z h)).1 in cc,
     )
-
-abbrev is_descendant : Edge → ℕ
-is_descendant Child = 0
-is_descendant Descendant = 1
-
-pub root_below : (i p : ℕ) (edge : Edge) → i ≤ 0 → edge ≡ Descendant → Hangs i p edge → ⊥
-root_below i p edge l e h =
-    let z : i ≡ 0 = omega arith in
-    let q : ◌≡◌ {A = ℕ} 0 1 = ap is_descendant (sym (hangs_root (subst (λ (j : ℕ). Hangs j p edge) z h)).1 ∙ e) in
-    omega arith
 
 -- what a rule node that is written says of its bytes
 pub record Parts (i p e a : ℕ) (n : RuleNode) : Type 0 where
@@ -118,15 +107,17 @@ set_sole r = sole (λ y z. each_same) (λ y z. recorded_or_not) r
 pub unset_sole : {bs : List ℕ} {x : ℕ × Option ℕ} → RecordReason bs x → Sole (RecordReason bs) (Recorded bs) x
 unset_sole r = sole (λ y z. reason_same) (λ y z q g. recorded_or_not g q) r
 
--- nothing is written without an edge, a mark and a place to hang
-pub unwritten_edge : {i p e a : ℕ} → ((edge : Edge) → EdgeByte e edge → ⊥) → (n : RuleNode) → Writes i p e a n → ⊥
-unwritten_edge h n w = h n.edge (parts w).edge
-
-pub unwritten_any : {i p e a : ℕ} → ((any : Bool) → AnyByte a any → ⊥) → (n : RuleNode) → Writes i p e a n → ⊥
-unwritten_any h n w = h n.any (parts w).any
-
+-- nothing is written without a place to hang
 pub unwritten_place : {i p e a : ℕ} {edge : Edge} → EdgeByte e edge → (Hangs i p edge → ⊥) → (n : RuleNode) → Writes i p e a n → ⊥
 unwritten_place {i} {p} {edge = edge} b h n w = h (subst (λ (x : Edge). Hangs i p x) (edge_same (parts w).edge b) (parts w).hangs)
+
+-- the edge that a byte was turned into
+pub edge_from : (b : ℕ) (r : Result Edge UnknownEdge) (edge : Edge) → EdgeFrom b r → Some edge ≡ result_ok r → EdgeByte b edge
+edge_from b (Ok x) edge h e = let q : x ≡ edge = cc in subst (EdgeByte b) q h
+edge_from b (Err f) edge h e = absurd (none_some e)
+  where
+    none_some : Some edge ≡ None → ⊥
+    none_some q = cc
 
 pub written : {i p q e a : ℕ} {edge : Edge} {any : Bool} → EdgeByte e edge → AnyByte a any → q ≡ p → Hangs i q edge → Writes i p e a (record { parent = q; edge = edge; any = any })
 written {i} {p} {q} {e} {a} {edge} {any} b m eq h = subst (λ (x : ℕ). Writes i x e a (record { parent = q; edge = edge; any = any })) eq (writes b m h)
@@ -135,12 +126,40 @@ pub refused_place : {i p q e a : ℕ} {edge : Edge} → EdgeByte e edge → q �
 refused_place {i} {edge = edge} b eq h = unwritten_place b (λ g. false≢true (h (subst (λ (x : ℕ). Hangs i x edge) (sym eq) g)))
 
 -- the length of the bytes tells how many records they are
-pub whole : (bs : List ℕ) → length bs % 3 ≡ 0 → (length bs / 3 ≡ 0 → ⊥) → length bs / 3 ≤ node_limit → Whole bs (length bs / 3)
-whole bs e some few = record {
-  long = omega arith;
-  some = elim (cases_lt 0 (length bs / 3)) [ inl l ↦ l | inr l ↦ absurd (some (omega arith)) ];
-  few = few;
-}
+pub whole : (bs : List ℕ) (k r : ℕ) → k ≡ length bs / 3 → r ≡ length bs % 3 → true ≡ eqb r 0 → (k ≡ 0 → ⊥) → k ≤ node_limit → Whole bs k
+whole bs k r d m e some few =
+    let none : r ≡ 0 = eqb-true r 0 (sym e) in
+    record {
+      long = omega arith;
+      some = elim (cases_lt 0 k) [ inl l ↦ l | inr l ↦ absurd (some (omega arith)) ];
+      few = few;
+    }
+
+-- the bytes of chunk i are those of record i
+chunk_at : (bs : List ℕ) (k i : ℕ) → i < k → get_or (first_chunks 3 k bs) i [] ≡ take 3 (drop (3 * i) bs)
+chunk_at bs zero i h = absurd (omega arith)
+chunk_at bs (suc k) zero h = refl
+chunk_at bs (suc k) (suc i) h =
+    let there : 3 + 3 * i ≡ 3 * suc i = omega arith in
+    chunk_at (drop 3 bs) k i (omega arith) ∙ ap (take 3) (drop-drop (3 * i) 3 bs ∙ ap (λ (n : ℕ). drop n bs) (omega arith))
+
+byte_at : (bs : List ℕ) (k i j : ℕ) → i < k → j < 3 → get_or (get_or (first_chunks 3 k bs) i []) j 0 ≡ get_or bs (3 * i + j) 0
+byte_at bs k i j h l = ap (λ (xs : List ℕ). get_or xs j 0) (chunk_at bs k i h) ∙ get_or-take 3 (drop (3 * i) bs) j 0 l ∙ get_or-drop (3 * i) bs j 0
+
+-- chunks of three bytes are the records
+module _ (bs : List ℕ) (chunks : List (List ℕ)) (are : chunks ≡ first_chunks 3 (length bs / 3) bs) (i : ℕ) (n : RuleNode) (h : i < length bs / 3) where
+  bytes_are : ◌≡◌ {A = ℕ × ℕ × ℕ} (get_or (get_or chunks i []) 0 0, get_or (get_or chunks i []) 1 0, get_or (get_or chunks i []) 2 0) (byte bs (3 * i), byte bs (3 * i + 1), byte bs (3 * i + 2))
+  bytes_are j = (
+    (ap (λ (c : List (List ℕ)). get_or (get_or c i []) 0 0) are ∙ byte_at bs _ i 0 h (omega arith) ∙ ap (λ m. get_or bs m 0) (add-zero (3 * i))) j,
+    (ap (λ (c : List (List ℕ)). get_or (get_or c i []) 1 0) are ∙ byte_at bs _ i 1 h (omega arith)) j,
+    (ap (λ (c : List (List ℕ)). get_or (get_or c i []) 2 0) are ∙ byte_at bs _ i 2 h (omega arith)) j,
+  )
+
+  pub record_at : RecordWrites i (get_or chunks i []) n → RecordAt bs i n
+  record_at w = subst (λ (t : ℕ × ℕ × ℕ). Writes i t.0 t.1 t.2 n) bytes_are w
+
+  pub at_record : RecordAt bs i n → RecordWrites i (get_or chunks i []) n
+  at_record w = subst (λ (t : ℕ × ℕ × ℕ). Writes i t.0 t.1 t.2 n) (sym bytes_are) w
 
 -- the rule nodes of the first k places are those of the records
 recorded : (bs : List ℕ) (nodes : List RuleNode) (k : ℕ) → Whole bs k → length nodes ≡ node_limit
@@ -172,18 +191,23 @@ recorded_ordered {ns = ns} r x l within =
     let e = p.parent in
     omega arith
 
-pub all_recorded : (bs : List ℕ) (nodes : List RuleNode) (i : ℕ) → Whole bs (length bs / 3) → length nodes ≡ node_limit → length bs / 3 ≤ i
-    → ((j : ℕ) → j < i → RecordAt bs j (get_or nodes j blank)) → Recorded bs (take (length bs / 3) nodes)
-all_recorded bs nodes i w room l each = recorded bs nodes (length bs / 3) w room (λ j h. each j (omega arith))
+pub all_recorded : (bs : List ℕ) (chunks : List (List ℕ)) (nodes : List RuleNode) (i : ℕ) → Whole bs (length chunks) → chunks ≡ first_chunks 3 (length bs / 3) bs
+    → length chunks ≡ length bs / 3 → length nodes ≡ node_limit → length chunks ≤ i
+    → ((j : ℕ) → j < i → RecordWrites j (get_or chunks j []) (get_or nodes j blank)) → Recorded bs (take (length chunks) nodes)
+all_recorded bs chunks nodes i w are long room all each =
+    recorded bs nodes (length chunks) w room (λ j h. record_at bs chunks are j (get_or nodes j blank) (omega arith) (each j (omega arith)))
 
 -- one record more
-pub record_more : (bs : List ℕ) (nodes : List RuleNode) (i : ℕ) (n : RuleNode) → i < length nodes → RecordAt bs i n
-    → ((j : ℕ) → j < i → RecordAt bs j (get_or nodes j blank)) → (j : ℕ) → j < i + 1 → RecordAt bs j (get_or (set nodes i n) j blank)
-record_more bs nodes i n within here each j l =
-    elim (cases_lt j i) [
-      | inl h ↦ subst (λ (x : RuleNode). RecordAt bs j x) (sym (get_or-set_other nodes i j n blank (λ e. omega arith))) (each j h)
-      | inr h ↦
-          let e : i ≡ j = omega arith in
-          let P : ℕ → Type 0 = λ k. RecordAt bs k (get_or (set nodes i n) k blank) in
-          subst P e (subst (λ (x : RuleNode). RecordAt bs i x) (sym (get_or-set_same nodes i n blank within)) here)
-    ]
+pub record_more : (chunks : List (List ℕ)) (nodes : List RuleNode) (i : ℕ) (n : RuleNode) → i < length nodes → RecordWrites i (get_or chunks i []) n
+    → ((j : ℕ) → j < i → RecordWrites j (get_or chunks j []) (get_or nodes j blank)) → (j : ℕ) → j < i + 1 → RecordWrites j (get_or chunks j []) (get_or (set nodes i n) j blank)
+record_more chunks nodes i n within here each =
+    below_more (λ j. RecordWrites j (get_or chunks j []) (get_or (set nodes i n) j blank)) i
+    (λ j h. subst (λ (x : RuleNode). RecordWrites j (get_or chunks j []) x) (sym (get_or-set_other nodes i j n blank (λ e. omega arith))) (each j h))
+    (subst (λ (x : RuleNode). RecordWrites i (get_or chunks i []) x) (sym (get_or-set_same nodes i n blank within)) here)
+
+-- the records before a bad one write rule nodes
+pub first_bad : (bs : List ℕ) (chunks : List (List ℕ)) (nodes : List RuleNode) (i : ℕ) → Whole bs (length chunks) → chunks ≡ first_chunks 3 (length bs / 3) bs
+    → length chunks ≡ length bs / 3 → i < length chunks
+    → ((j : ℕ) → j < i → RecordWrites j (get_or chunks j []) (get_or nodes j blank)) → ((n : RuleNode) → RecordWrites i (get_or chunks i []) n → ⊥) → RecordReason bs (16, Some i)
+first_bad bs chunks nodes i w are long h each none =
+    bad w h (λ j l. (get_or nodes j blank, record_at bs chunks are j (get_or nodes j blank) (omega arith) (each j l))) (λ n r. none n (at_record bs chunks are i n (omega arith) r))

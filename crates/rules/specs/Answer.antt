@@ -2,12 +2,13 @@
 use Rattle.std.specs.Prelude.{◌≡◌, ℕ, ◌<◌, ◌⊎◌, List, length}
 use Rattle.rules.specs.declared.syntax.Token.{Token}
 use Rattle.rules.specs.declared.syntax.ParsedNode.{ParsedNode}
+use Rattle.rules.specs.Limits.{text_limit}
 use Rattle.rules.specs.Lexing.{Lexes}
 use Rattle.rules.specs.Reading.{Accepted, Refused}
 
 -- bs is no text of 1 to 1,024 bytes
 abbrev pub Unfit : List ℕ → Type 0
-Unfit bs = (length bs ≡ 0) ⊎ (1024 < length bs)
+Unfit bs = (length bs ≡ 0) ⊎ (text_limit < length bs)
 
 -- the rule text bs gives the rule nodes ns
 pub data Gives (bs : List ℕ) (ns : List ParsedNode) : Type 0 where

@@ -2,7 +2,7 @@
 use Rattle.std.specs.Prelude.{◌≡◌, ℕ, ◌<◌, Bool, true, false, ◌↔◌, List, map, length, take, drop, Some}
 use Rattle.std.specs.List.{slice_get}
 use Rattle.rules.specs.declared.syntax.Kind.{Kind}
-use Rattle.rules.specs.declared.syntax.Kind.TheVariants.{DoubleSlash, Slash, Dot, Open, Close, Star, Name, Stray, End}
+use Rattle.rules.specs.declared.syntax.Kind.TheVariants.{Star}
 use Rattle.rules.specs.declared.syntax.Token.{Token}
 use Rattle.rules.specs.declared.node.Edge.{Edge}
 use Rattle.rules.specs.declared.syntax.ParsedNode.{ParsedNode}
@@ -59,15 +59,8 @@ module _ (bs : List ℕ) where
 
 -- the rule nodes without their places in the text
 abbrev pub is_star : Kind → Bool
-is_star DoubleSlash = false
-is_star Slash = false
-is_star Dot = false
-is_star Open = false
-is_star Close = false
 is_star Star = true
-is_star Name = false
-is_star Stray = false
-is_star End = false
+is_star _ = false
 
 abbrev pub plain : ParsedNode → RuleNode
 plain n = record { parent = n.parent; edge = n.edge; any = is_star n.test.kind }

@@ -28,36 +28,18 @@ pub data Moved : Type 0 where
 
 abbrev pub on_double : Kind → State → Moved
 on_double DoubleSlash s = to s
-on_double Slash s = stuck
-on_double Dot s = stuck
-on_double Open s = stuck
-on_double Close s = stuck
-on_double Star s = stuck
-on_double Name s = stuck
-on_double Stray s = stuck
-on_double End s = stuck
+on_double _ s = stuck
 
 abbrev pub on_test : Kind → State → Moved
-on_test DoubleSlash s = stuck
-on_test Slash s = stuck
-on_test Dot s = stuck
-on_test Open s = stuck
-on_test Close s = stuck
-on_test Star s = to s
 on_test Name s = to s
-on_test Stray s = stuck
-on_test End s = stuck
+on_test Star s = to s
+on_test _ s = stuck
 
 abbrev pub on_path : Kind → State → State → Moved
-on_path DoubleSlash d s = stuck
-on_path Slash d s = stuck
 on_path Dot d s = to d
-on_path Open d s = stuck
-on_path Close d s = stuck
-on_path Star d s = to s
 on_path Name d s = to s
-on_path Stray d s = stuck
-on_path End d s = stuck
+on_path Star d s = to s
+on_path _ d s = stuck
 
 -- behind a step: inside a predicate and outside
 abbrev pub on_after : Kind → ℕ → List ℕ → List ParsedNode → Moved
@@ -121,15 +103,10 @@ depth (ended ns) = 0
 
 -- the number of the limit that a token passes, or 0
 abbrev pub over : Kind → ℕ → ℕ → ℕ → ℕ
-over DoubleSlash long tests deep = 0
-over Slash long tests deep = 0
-over Dot long tests deep = 0
 over Open long tests deep = cond (nat_le 16 deep) 14 0
-over Close long tests deep = 0
 over Star long tests deep = cond (nat_le 64 tests) 13 0
 over Name long tests deep = cond (nat_le 64 tests) 13 (cond (nat_lt 32 long) 12 0)
-over Stray long tests deep = 0
-over End long tests deep = 0
+over _ long tests deep = 0
 
 abbrev pub go : Moved → ℕ → ℕ → (State → Answer) → Answer
 go stuck k p f = refuses 11 p

@@ -1,7 +1,7 @@
 -- What the readers of path, step and predicate do, as moves of the machine: the contracts of private functions.
-use Rattle.std.specs.Prelude.{◌≡◌, ℕ, ◌+◌, ◌<◌, ◌≤◌, List, [], ◌∷◌, length, take}
+use Rattle.std.specs.Prelude.{◌≡◌, ℕ, ◌+◌, ◌<◌, ◌≤◌, List, [], ◌∷◌, length, ◌≢◌}
 use Rattle.rules.specs.declared.syntax.Kind.{Kind}
-use Rattle.rules.specs.declared.syntax.Kind.TheVariants.{DoubleSlash, Slash, Dot, Open, Close, Star, Name, Stray, End}
+use Rattle.rules.specs.declared.syntax.Kind.TheVariants.{DoubleSlash, Slash, Open, End}
 use Rattle.rules.specs.declared.syntax.Token.{Token}
 use Rattle.rules.specs.declared.node.Edge.{Edge}
 use Rattle.rules.specs.declared.node.Edge.TheVariants.{Child, Descendant}
@@ -9,8 +9,8 @@ use Rattle.rules.specs.declared.syntax.ParsedNode.{ParsedNode}
 use Rattle.rules.specs.declared.refusal.TextRefusal.{TextRefusal}
 use Rattle.rules.specs.declared.refusal.TextRefusal.TheVariants.{ShortList, Length, NotAllowed, LongName, ManyTests, DeepBracket}
 use Rattle.rules.specs.declared.reader.Reader.{Reader}
-use Rattle.std.specs.List.{AllByRecursion}
-use Rattle.rules.specs.Machine.{State, start, after, opened, below, more, Answer, accepts, refuses, on_test, with_node, move, nodes, run, from, Next}
+use Rattle.rules.specs.Limits.{bracket_limit}
+use Rattle.rules.specs.Machine.{State, after, opened, below, more, Answer, refuses, on_test, with_node, move, nodes, run, from, Next}
 
 abbrev pub told : TextRefusal → Answer
 told ShortList = refuses 17 0
@@ -28,17 +28,7 @@ abbrev pub left : Reader → List Token
 left r = from (bytes r) r.at
 
 abbrev pub made : Reader → List ParsedNode
-made r = take r.count r.nodes
-
--- the test of a rule node stands in the bytes, and a name is not too long
-abbrev pub Lies : List ℕ → ParsedNode → Type 0
-Lies bs n = (n.test.place + n.test.len ≤ length bs) × (n.test.kind ≡ Name → n.test.len ≤ 32)
-
-pub record Sound (r : Reader) : Type 0 where
-  pub lies : AllByRecursion (Lies (bytes r)) (made r)
-  pub within : r.at ≤ length (bytes r)
-  pub few : r.count ≤ 64
-  pub room : length r.nodes ≡ 64
+made r = r.nodes.items
 
 abbrev pub Upcoming : Reader → Token → Type 0
 Upcoming r t = Next (bytes r) r.at t
@@ -50,86 +40,90 @@ front (t ∷ ts) = t.kind
 
 -- what stands behind a step with its predicates is no `[`
 abbrev pub Unopened : Kind → Type 0
-Unopened DoubleSlash = Unit {0}
-Unopened Slash = Unit {0}
-Unopened Dot = Unit {0}
 Unopened Open = ⊥
-Unopened Close = Unit {0}
-Unopened Star = Unit {0}
-Unopened Name = Unit {0}
-Unopened Stray = Unit {0}
-Unopened End = Unit {0}
+Unopened _ = Unit {0}
 
 -- nor is what stands behind a path, and no `/` or `//` either
 abbrev pub Ended : Kind → Type 0
 Ended DoubleSlash = ⊥
 Ended Slash = ⊥
-Ended Dot = Unit {0}
 Ended Open = ⊥
-Ended Close = Unit {0}
-Ended Star = Unit {0}
-Ended Name = Unit {0}
-Ended Stray = Unit {0}
-Ended End = Unit {0}
+Ended _ = Unit {0}
+
+-- the reader stands at the front of the text bs, and has noted nothing
+pub record Fresh (bs : List ℕ) (r : Reader) : Type 0 where
+  pub whole : bytes r ≡ bs
+  pub front : r.at ≡ 0
+  pub none : made r ≡ []
 
 -- the reader has gone on from e to x
 pub record Kept (e x : Reader) : Type 0 where
   pub same : bytes x ≡ bytes e
   pub on : e.at ≤ x.at
-  pub sound : Sound x
 
--- in the state s, a test makes a rule node under p, with the predicates of outer open
-pub record Enters (s : State) (test : Token) (p : ℕ) (edge : Edge) (outer : List ℕ) (ns : List ParsedNode) : Type 0 where
-  pub nodes_are : nodes s ≡ ns
-  pub moves_on : move s test ≡ on_test test.kind (with_node p edge outer ns test)
+-- it has passed a token of the kind k, and noted nothing
+pub record Expected (e x : Reader) (k : Kind) : Type 0 where
+  pub token : Token
+  pub upcoming : Upcoming e token
+  pub kind : token.kind ≡ k
+  pub same : bytes x ≡ bytes e
+  pub behind : x.at ≡ token.place + token.len
+  pub made_same : made x ≡ made e
 
-pub record Noted (e x : Reader) (test : Token) (p : ℕ) (edge : Edge) (n : ℕ) : Type 0 where
+-- another token comes next
+pub record Unexpected (e : Reader) (k : Kind) (f : TextRefusal) : Type 0 where
+  pub token : Token
+  pub upcoming : Upcoming e token
+  pub other : token.kind ≢ k
+  pub refused : f ≡ NotAllowed token.place
+
+-- in the state s the test that comes next makes a rule node under p, with the predicates of outer open
+pub record Enters (e : Reader) (s : State) (p : ℕ) (edge : Edge) (outer : List ℕ) : Type 0 where
+  pub nodes_are : nodes s ≡ made e
+  pub moves_on : (t : Token) → Upcoming e t → move s t ≡ on_test t.kind (with_node p edge outer (made e) t)
+
+pub record Noted (e x : Reader) (p : ℕ) (edge : Edge) (n : ℕ) : Type 0 where
   pub kept : Kept e x
   pub further : e.at < x.at
-  pub leads : (outer : List ℕ) (s : State) → Enters s test p edge outer (made e) → run (left e) s ≡ run (left x) (after n outer (made x))
+  pub leads : (outer : List ℕ) (s : State) → Enters e s p edge outer → run (left e) s ≡ run (left x) (after n outer (made x))
 
-abbrev pub NoteFails : Reader → Token → ℕ → Edge → TextRefusal → Type 0
-NoteFails e test p edge f = (outer : List ℕ) (s : State) → Enters s test p edge outer (made e) → run (left e) s ≡ told f
+abbrev pub NoteFails : Reader → ℕ → Edge → TextRefusal → Type 0
+NoteFails e p edge f = (outer : List ℕ) (s : State) → Enters e s p edge outer → run (left e) s ≡ told f
 
 -- the state before a path's first test
 abbrev pub first : Edge → ℕ → List ℕ → List ParsedNode → State
 first Child n outer ns = opened n outer ns
 first Descendant n outer ns = below n outer ns
 
-pub record Begun (e x : Reader) (test : Token) (edge : Edge) : Type 0 where
+pub record Begun (e x : Reader) (edge : Edge) : Type 0 where
   pub kept : Kept e x
-  pub made_same : made x ≡ made e
-  pub upcoming : Upcoming x test
-  pub enters : (n : ℕ) (outer : List ℕ) (ns : List ParsedNode) → Enters (first edge n outer ns) test n edge (n ∷ outer) ns
-  pub leads : (n : ℕ) (outer : List ℕ) (ns : List ParsedNode) → run (left e) (opened n outer ns) ≡ run (left x) (first edge n outer ns)
+  pub enters : (n : ℕ) (outer : List ℕ) → Enters x (first edge n outer (made x)) n edge (n ∷ outer)
+  pub leads : (n : ℕ) (outer : List ℕ) → run (left e) (opened n outer (made e)) ≡ run (left x) (first edge n outer (made x))
 
 abbrev pub BeginFails : Reader → TextRefusal → Type 0
-BeginFails e f = (n : ℕ) (outer : List ℕ) (ns : List ParsedNode) → run (left e) (opened n outer ns) ≡ told f
+BeginFails e f = (n : ℕ) (outer : List ℕ) → run (left e) (opened n outer (made e)) ≡ told f
 
 pub record Joined (e x : Reader) (edge : Edge) : Type 0 where
   pub kept : Kept e x
   pub further : e.at < x.at
-  pub made_same : made x ≡ made e
-  pub leads : (n k : ℕ) (outer : List ℕ) (ns : List ParsedNode) → run (left e) (after n (k ∷ outer) ns) ≡ run (left x) (more edge n k outer ns)
+  pub leads : (n k : ℕ) (outer : List ℕ) → run (left e) (after n (k ∷ outer) (made e)) ≡ run (left x) (more edge n k outer (made x))
 
 pub record Unjoined (e x : Reader) : Type 0 where
-  pub kept : Kept e x
-  pub left_same : left x ≡ left e
-  pub made_same : made x ≡ made e
+  pub same : x ≡ e
   pub stops : Unopened (front (left x)) → Ended (front (left x))
 
 -- the brackets that may still be opened are `room`
 abbrev pub Room : List ℕ → ℕ → Type 0
-Room outer room = length outer + room ≡ 16
+Room outer room = length outer + room ≡ bracket_limit
 
-pub record StepRead (e x : Reader) (test : Token) (p : ℕ) (edge : Edge) (room n : ℕ) : Type 0 where
+pub record StepRead (e x : Reader) (p : ℕ) (edge : Edge) (room n : ℕ) : Type 0 where
   pub kept : Kept e x
   pub further : e.at < x.at
   pub stops : Unopened (front (left x))
-  pub leads : (outer : List ℕ) (s : State) → Room outer room → Enters s test p edge outer (made e) → run (left e) s ≡ run (left x) (after n outer (made x))
+  pub leads : (outer : List ℕ) (s : State) → Room outer room → Enters e s p edge outer → run (left e) s ≡ run (left x) (after n outer (made x))
 
-abbrev pub StepFails : Reader → Token → ℕ → Edge → ℕ → TextRefusal → Type 0
-StepFails e test p edge room f = (outer : List ℕ) (s : State) → Room outer room → Enters s test p edge outer (made e) → run (left e) s ≡ told f
+abbrev pub StepFails : Reader → ℕ → Edge → ℕ → TextRefusal → Type 0
+StepFails e p edge room f = (outer : List ℕ) (s : State) → Room outer room → Enters e s p edge outer → run (left e) s ≡ told f
 
 pub record PredicateRead (e x : Reader) (n room : ℕ) : Type 0 where
   pub kept : Kept e x
@@ -147,10 +141,3 @@ pub record PathRead (e x : Reader) (n room : ℕ) : Type 0 where
 
 abbrev pub PathFails : Reader → ℕ → ℕ → TextRefusal → Type 0
 PathFails e n room f = (outer : List ℕ) → Room (n ∷ outer) room → run (left e) (opened n outer (made e)) ≡ told f
-
-pub record WholeRead (e x : Reader) : Type 0 where
-  pub kept : Kept e x
-  pub leads : run (left e) start ≡ accepts (made x)
-
-abbrev pub WholeFails : Reader → TextRefusal → Type 0
-WholeFails e f = run (left e) start ≡ told f

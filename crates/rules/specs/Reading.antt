@@ -1,43 +1,23 @@
 -- Which rule texts are accepted, and with what number and at which place the others are refused.
 use Rattle.std.specs.Prelude.{◌≡◌, ℕ, ◌+◌, ◌-◌, ◌<◌, ◌≤◌, List, [], ◌∷◌, ◌++◌}
 use Rattle.rules.specs.declared.syntax.Kind.{Kind}
-use Rattle.rules.specs.declared.syntax.Kind.TheVariants.{DoubleSlash, Slash, Dot, Open, Close, Star, Name, Stray, End}
+use Rattle.rules.specs.declared.syntax.Kind.TheVariants.{Open, Close, Star, Name}
 use Rattle.rules.specs.declared.syntax.Token.{Token}
 use Rattle.rules.specs.declared.syntax.ParsedNode.{ParsedNode}
 use Rattle.rules.specs.Grammar.{Test, Text, Begins}
 
 abbrev pub is_test : Kind → ℕ
-is_test DoubleSlash = 0
-is_test Slash = 0
-is_test Dot = 0
-is_test Open = 0
-is_test Close = 0
-is_test Star = 1
 is_test Name = 1
-is_test Stray = 0
-is_test End = 0
+is_test Star = 1
+is_test _ = 0
 
 abbrev pub is_open : Kind → ℕ
-is_open DoubleSlash = 0
-is_open Slash = 0
-is_open Dot = 0
 is_open Open = 1
-is_open Close = 0
-is_open Star = 0
-is_open Name = 0
-is_open Stray = 0
-is_open End = 0
+is_open _ = 0
 
 abbrev pub is_close : Kind → ℕ
-is_close DoubleSlash = 0
-is_close Slash = 0
-is_close Dot = 0
-is_close Open = 0
 is_close Close = 1
-is_close Star = 0
-is_close Name = 0
-is_close Stray = 0
-is_close End = 0
+is_close _ = 0
 
 -- how many of the tokens are of a kind
 abbrev pub count : (Kind → ℕ) → List Token → ℕ

@@ -1,10 +1,11 @@
 -- Rules written as records of three bytes: parent, edge, any.
-use Rattle.std.specs.Prelude.{◌≡◌, ℕ, ◌+◌, ◌*◌, ◌<◌, ◌≤◌, Bool, true, false, List, length, Some, None, Option}
+use Rattle.std.specs.Prelude.{◌≡◌, ℕ, ◌+◌, ◌*◌, ◌<◌, ◌≤◌, Bool, true, false, List, length, Some, None, Option, Result, MatchResult}
 use Rattle.std.specs.List.{slice_get}
 use Rattle.labels.specs.Spelling.{byte}
 use Rattle.rules.specs.declared.node.Edge.{Edge}
 use Rattle.rules.specs.declared.node.Edge.TheVariants.{Child, Descendant}
 use Rattle.rules.specs.declared.node.RuleNode.{RuleNode}
+use Rattle.rules.specs.declared.records.UnknownEdge.{UnknownEdge}
 use Rattle.rules.specs.declared.refusal.RecordRefusal.{RecordRefusal}
 use Rattle.rules.specs.declared.rule.Rule.{Rule}
 use Rattle.rules.specs.Limits.{node_limit}
@@ -15,6 +16,10 @@ use Rattle.rules.specs.Exact.{Sole}
 pub data EdgeByte : ℕ → Edge → Type 0 where
   child : EdgeByte 0 Child
   descendant : EdgeByte 1 Descendant
+
+-- the byte means the edge, or it means none and is told back
+abbrev pub EdgeFrom : ℕ → Result Edge UnknownEdge → Type 0
+EdgeFrom b r = MatchResult r (EdgeByte b) (λ f. (f.0 ≡ b) × ((edge : Edge) → EdgeByte b edge → ⊥))
 
 pub data AnyByte : ℕ → Bool → Type 0 where
   named : AnyByte 0 false
@@ -29,6 +34,10 @@ pub data Hangs : ℕ → ℕ → Edge → Type 0 where
 pub data Writes (i : ℕ) : ℕ → ℕ → ℕ → RuleNode → Type 0 where
   writes : {p e a : ℕ} {edge : Edge} {any : Bool} → EdgeByte e edge → AnyByte a any → Hangs i p edge
       → Writes i p e a (record { parent = p; edge = edge; any = any })
+
+-- the three bytes of a record write the rule node i
+abbrev pub RecordWrites : ℕ → List ℕ → RuleNode → Type 0
+RecordWrites i bs n = Writes i (byte bs 0) (byte bs 1) (byte bs 2) n
 
 -- record i of the bytes writes the rule node
 abbrev pub RecordAt : List ℕ → ℕ → RuleNode → Type 0

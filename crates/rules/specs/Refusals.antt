@@ -1,5 +1,6 @@
 -- The refusals of rule texts and of records, by their numbers and values.
-use Rattle.std.specs.Prelude.{ℕ, Some, None, Option}
+use Rattle.std.specs.Prelude.{ℕ, List, ◌++◌, codes, Some, None, Option}
+use Rattle.std.specs.Fmt.{decimal}
 use Rattle.rules.specs.declared.refusal.RecordRefusal.{RecordRefusal}
 use Rattle.rules.specs.declared.refusal.RecordRefusal.TheVariants.{Size, Bad}
 use Rattle.rules.specs.declared.refusal.TextRefusal.{TextRefusal}
@@ -32,3 +33,21 @@ record_number f = (number_and_record f).0
 
 abbrev pub bad_record : RecordRefusal → Option ℕ
 bad_record f = (number_and_record f).1
+
+------------------------------------------------------------------------
+-- how they are printed
+
+-- a number at a place
+abbrev pub number_at : ℕ → ℕ → List ℕ
+number_at k p = decimal k ++ (codes " at " ++ decimal p)
+
+abbrev pub printed_text : TextRefusal → List ℕ
+printed_text f = number_at (number f) (place f)
+
+-- the number, at the record if it names one
+abbrev pub printed_number : ℕ × Option ℕ → List ℕ
+printed_number (k, None) = decimal k
+printed_number (k, Some i) = number_at k i
+
+abbrev pub printed_record : RecordRefusal → List ℕ
+printed_record f = printed_number (number_and_record f)

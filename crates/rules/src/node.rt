@@ -1,8 +1,9 @@
 // The nodes of a rule.
 
 // How a rule node hangs under its parent.
-#[derive(Clone, Copy, PartialEq, Eq, Debug)]
+#[derive(Clone, Copy, PartialEq, Eq, Debug, Default)]
 pub enum Edge {
+    #[default]
     Child,
     Descendant,
 }
@@ -13,4 +14,13 @@ pub struct RuleNode {
     pub parent: usize,
     pub edge: Edge,
     pub any: bool,
+}
+
+impl RuleNode {
+    // A root that every label meets.
+    pub(crate) const ANY: RuleNode = RuleNode {
+        parent: 0,
+        edge: Edge::Child,
+        any: true,
+    };
 }

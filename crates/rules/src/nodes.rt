@@ -3,7 +3,7 @@ ghost use Rattle.std.specs.Prelude.{◌≡◌, [], ◌∷◌};
 ghost use Rattle.rules.specs.Rule.{any_node};
 ghost use Rattle.rules.specs.Nodes.{rule_nodes};
 
-use crate::node::{Edge, RuleNode};
+use crate::node::RuleNode;
 use crate::rule::{RULE_NODES, Rule};
 
 impl Rule {
@@ -11,13 +11,8 @@ impl Rule {
     pub fn new() -> Rule
         ensures { rule_nodes result ≡ any_node ∷ [] }
     {
-        let any = RuleNode {
-            parent: 0,
-            edge: Edge::Child,
-            any: true,
-        };
         Rule {
-            nodes: [any; RULE_NODES],
+            nodes: [RuleNode::ANY; RULE_NODES],
             len: 1,
         }
     }
@@ -26,6 +21,6 @@ impl Rule {
     pub fn nodes(&self) -> &[RuleNode]
         ensures { result.now ≡ rule_nodes self.now }
     {
-        &self.nodes[0..self.len]
+        &self.nodes[..self.len]
     }
 }

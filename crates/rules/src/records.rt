@@ -1,8 +1,7 @@
 // Rules from records.
 ghost use Rattle.std.specs.Prelude.{Bool, Decides, MatchOption, MatchResult};
-ghost use Rattle.rules.specs.declared.node.Edge.{Edge};
 ghost use Rattle.rules.specs.declared.node.RuleNode.{RuleNode};
-ghost use Rattle.rules.specs.Records.{EdgeByte, AnyByte, Hangs, Writes, SetFrom, Unsettable, Unset};
+ghost use Rattle.rules.specs.Records.{EdgeFrom, AnyByte, Hangs, RecordWrites, SetFrom, Unsettable, Unset};
 
 use crate::node::{Edge, RuleNode};
 use crate::refusal::RecordRefusal;
@@ -11,18 +10,26 @@ use crate::rule::{RULE_NODES, Rule};
 // The bytes of a record: parent, edge, any.
 const RECORD: usize = 3;
 
-// The edge to the parent, unless the byte means none.
-fn edge_of(byte: u8) -> Option<Edge>
-    ensures { MatchOption result ((edge : Edge) → EdgeByte byte edge → ⊥) (EdgeByte byte) }
-{
-    match byte {
-        0 => Some(Edge::Child),
-        1 => Some(Edge::Descendant),
-        _ => None,
+// A byte that means no edge.
+#[derive(Clone, Copy, PartialEq, Eq, Debug)]
+pub struct UnknownEdge(pub u8);
+
+// The edge to the parent.
+impl TryFrom<u8> for Edge {
+    type Error = UnknownEdge;
+
+    ghost try_from_gives = { EdgeFrom };
+
+    fn try_from(byte: u8) -> Result<Edge, UnknownEdge> {
+        match byte {
+            0 => Ok(Edge::Child),
+            1 => Ok(Edge::Descendant),
+            _ => Err(UnknownEdge(byte)),
+        }
     }
 }
 
-// Whether the test is any, unless the byte means neither.
+// Whether the test is any, unless the byte means neither. A function, since neither type is of this crate.
 fn any_of(byte: u8) -> Option<bool>
     ensures { MatchOption result ((any : Bool) → AnyByte byte any → ⊥) (AnyByte byte) }
 {
@@ -38,20 +45,19 @@ fn hangs(number: usize, parent: usize, edge: Edge) -> bool
     ensures { Decides result (Hangs number parent edge) }
 {
     if number > 0 {
-        return parent < number;
-    }
-    match edge {
-        Edge::Child => parent == 0,
-        Edge::Descendant => false,
+        parent < number
+    } else {
+        parent == 0 && edge == Edge::Child
     }
 }
 
-// The rule node with this number that the three bytes write, unless they write none.
-fn node_of(number: usize, parent: u8, edge: u8, any: u8) -> Option<RuleNode>
-    ensures { MatchOption result ((n : RuleNode) → Writes number parent edge any n → ⊥) (Writes number parent edge any) }
+// The rule node with this number that the record writes, unless it writes none.
+fn node_of(number: usize, bytes: &[u8; RECORD]) -> Option<RuleNode>
+    ensures { MatchOption result ((n : RuleNode) → RecordWrites number bytes.now n → ⊥) (RecordWrites number bytes.now) }
 {
+    let [parent, edge, any] = *bytes;
     let parent = usize::from(parent);
-    let edge = edge_of(edge)?;
+    let edge = Edge::try_from(edge).ok()?;
     let any = any_of(any)?;
     if hangs(number, parent, edge) {
         Some(RuleNode { parent, edge, any })
@@ -64,22 +70,14 @@ fn node_of(number: usize, parent: u8, edge: u8, any: u8) -> Option<RuleNode>
 fn rule_from(bytes: &[u8]) -> Result<Rule, RecordRefusal>
     ensures { MatchResult result (SetFrom bytes.now) (Unsettable bytes.now) }
 {
-    let len = bytes.len() / RECORD;
-    if bytes.len() % RECORD != 0 || len == 0 || len > RULE_NODES {
+    let (records, rest) = bytes.as_chunks::<RECORD>();
+    let len = records.len();
+    if !rest.is_empty() || len == 0 || len > RULE_NODES {
         return Err(RecordRefusal::Size);
     }
-    let blank = RuleNode {
-        parent: 0,
-        edge: Edge::Child,
-        any: true,
-    };
-    let mut nodes = [blank; RULE_NODES];
-    for i in 0..len {
-        let at = RECORD * i;
-        match node_of(i, bytes[at], bytes[at + 1], bytes[at + 2]) {
-            Some(node) => nodes[i] = node,
-            None => return Err(RecordRefusal::Bad(i)),
-        }
+    let mut nodes = [RuleNode::ANY; RULE_NODES];
+    for (number, record) in records.iter().enumerate() {
+        nodes[number] = node_of(number, record).ok_or(RecordRefusal::Bad(number))?;
     }
     Ok(Rule { nodes, len })
 }

@@ -1,6 +1,9 @@
 // Why a rule is refused.
-ghost use Rattle.std.specs.Prelude.{◌≡◌};
-ghost use Rattle.rules.specs.Refusals.{number, place, record_number, bad_record};
+ghost use Rattle.std.specs.Prelude.{◌≡◌, Some};
+ghost use Rattle.rules.specs.Refusals.{number, place, printed_text, record_number, bad_record, printed_record};
+
+use std::error::Error;
+use std::fmt;
 
 // Why a rule text is refused, with the place.
 #[derive(Clone, Copy, PartialEq, Eq, Debug)]
@@ -31,15 +34,25 @@ impl TextRefusal {
         ensures { result ≡ place self.now }
     {
         match self {
-            TextRefusal::ShortList => 0,
-            TextRefusal::Length => 0,
-            TextRefusal::NotAllowed(at) => *at,
-            TextRefusal::LongName(at) => *at,
-            TextRefusal::ManyTests(at) => *at,
-            TextRefusal::DeepBracket(at) => *at,
+            TextRefusal::ShortList | TextRefusal::Length => 0,
+            TextRefusal::NotAllowed(at)
+            | TextRefusal::LongName(at)
+            | TextRefusal::ManyTests(at)
+            | TextRefusal::DeepBracket(at) => *at,
         }
     }
 }
+
+// The number at the place, as `11 at 5`.
+impl fmt::Display for TextRefusal {
+    ghost output = { λ f. Some (printed_text f) };
+
+    fn fmt<W: fmt::Write>(&self, f: &mut fmt::Formatter<W>) -> fmt::Result {
+        write!(f, "{} at {}", self.number(), self.place())
+    }
+}
+
+impl Error for TextRefusal {}
 
 // Why records are refused: their size, or the first bad record by its number.
 #[derive(Clone, Copy, PartialEq, Eq, Debug)]
@@ -67,3 +80,18 @@ impl RecordRefusal {
         }
     }
 }
+
+// The number, and the bad record if there is one, as `16 at 2`.
+impl fmt::Display for RecordRefusal {
+    ghost output = { λ f. Some (printed_record f) };
+
+    fn fmt<W: fmt::Write>(&self, f: &mut fmt::Formatter<W>) -> fmt::Result {
+        let number = self.number();
+        match self.record() {
+            None => write!(f, "{number}"),
+            Some(record) => write!(f, "{number} at {record}"),
+        }
+    }
+}
+
+impl Error for RecordRefusal {}

@@ -8,6 +8,7 @@ use crate::node::RuleNode;
 pub const RULE_NODES: usize = 64;
 
 // A rule: 1 to 64 rule nodes. Node 0 is the root, and each parent is numbered below its child.
+// An array with a count, since a rule is copied and an `ArrayVec` is not.
 #[derive(Clone, Copy)]
 pub struct Rule {
     pub(crate) nodes: [RuleNode; RULE_NODES],

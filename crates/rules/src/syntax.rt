@@ -1,7 +1,7 @@
 // The tokens of a rule text and the rule nodes that it gives.
 use crate::node::Edge;
 
-#[derive(Clone, Copy, PartialEq, Eq)]
+#[derive(Clone, Copy, PartialEq, Eq, Default)]
 pub enum Kind {
     DoubleSlash,
     Slash,
@@ -11,10 +11,11 @@ pub enum Kind {
     Star,
     Name,
     Stray,
+    #[default]
     End,
 }
 
-#[derive(Clone, Copy)]
+#[derive(Clone, Copy, Default)]
 pub struct Token {
     pub kind: Kind,
     pub place: usize,
@@ -22,7 +23,7 @@ pub struct Token {
 }
 
 // A rule node as read: its test is the token.
-#[derive(Clone, Copy)]
+#[derive(Clone, Copy, Default)]
 pub struct ParsedNode {
     pub parent: usize,
     pub edge: Edge,

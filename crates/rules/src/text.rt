@@ -1,27 +1,31 @@
 // Rules from rule texts.
 ghost use Rattle.std.specs.Prelude.{◌≡◌, ◌<◌, ◌≤◌, length, MatchResult};
 ghost use Rattle.std.specs.List.{AllByRecursion};
-ghost use Rattle.rules.specs.Readers.{Lies};
+ghost use Rattle.rules.specs.Parsing.{Lies};
 ghost use Rattle.rules.specs.Rule.{Rooted, Ordered};
 ghost use Rattle.rules.specs.Nodes.{rule_nodes};
-ghost use Rattle.rules.specs.Expression.{is_star, rule_nodes_of};
+ghost use Rattle.rules.specs.Expression.{rule_nodes_of};
 ghost use Rattle.rules.specs.Naming.{NamesIn, ReadInto, Reason, Unread, OnlyRule, Unreadable};
 ghost use Rattle.rules.specs.Refusals.{number, place};
 
-use crate::node::{Edge, RuleNode};
+use crate::node::RuleNode;
 use crate::reader::parse;
 use crate::refusal::TextRefusal;
 use crate::rule::{RULE_NODES, Rule};
 use crate::syntax::{Kind, ParsedNode};
 use labels::kind::NameLabel;
 
-// Whether the test is `*`.
-fn is_any(kind: Kind) -> bool
-    ensures { result ≡ is_star kind }
-{
-    match kind {
-        Kind::Star => true,
-        _ => false,
+impl From<ParsedNode> for RuleNode {
+    ghost use Rattle.rules.specs.Expression.{plain};
+
+    ghost from_gives = { λ n r. r ≡ plain n };
+
+    fn from(node: ParsedNode) -> RuleNode {
+        RuleNode {
+            parent: node.parent,
+            edge: node.edge,
+            any: node.test.kind == Kind::Star,
+        }
     }
 }
 
@@ -33,18 +37,10 @@ fn rule_of(nodes: &[ParsedNode]) -> Rule
     requires ordered { Ordered (rule_nodes_of nodes.now) }
     ensures { rule_nodes result ≡ rule_nodes_of nodes.now }
 {
-    let blank = RuleNode {
-        parent: 0,
-        edge: Edge::Child,
-        any: false,
-    };
-    let mut made = [blank; RULE_NODES];
+    let mut made = [RuleNode::ANY; RULE_NODES];
+    // By index: of what a zip over `iter_mut` writes, no proof knows anything.
     for (i, node) in nodes.iter().enumerate() {
-        made[i] = RuleNode {
-            parent: node.parent,
-            edge: node.edge,
-            any: is_any(node.test.kind),
-        };
+        made[i] = RuleNode::from(*node);
     }
     Rule {
         nodes: made,
@@ -58,15 +54,12 @@ fn write_names<N: NameLabel>(text: &[u8], nodes: &[ParsedNode], names: &mut [N])
     requires lie { AllByRecursion (Lies text.now) nodes.now }
     ensures { NamesIn N.spelled text.now nodes.now names.old names.new }
 {
+    // By index, as in `rule_of`.
     for (i, node) in nodes.iter().enumerate() {
         let test = node.test;
-        match test.kind {
-            Kind::Name => {
-                let place = test.place;
-                let end = place + test.len;
-                names[i] = N::from_name(&text[place..end]);
-            }
-            _ => {}
+        if test.kind == Kind::Name {
+            let end = test.place + test.len;
+            names[i] = N::from_name(&text[test.place..end]);
         }
     }
 }
@@ -80,7 +73,7 @@ fn read<N: NameLabel>(text: &[u8], names: &mut [N]) -> Result<Rule, TextRefusal>
         return Err(TextRefusal::ShortList);
     }
     let parsed = parse(text)?;
-    let nodes = &parsed.nodes[0..parsed.count];
+    let nodes = parsed.as_slice();
     let rule = rule_of(nodes);
     write_names(text, nodes, names);
     Ok(rule)

@@ -11,7 +11,7 @@ pub loop-i-preserved : goal.loop-i-preserved
 loop-i-preserved c =
     let room = c.loop-i.invariant.0 in (
       length-set c.loop-i.made c.loop-i.i _ ∙ c.loop-i.invariant.0,
-      make_more c.loop-i.made c.args.nodes.now c.loop-i.i blank c.is_any.result c.loop-i-test.true (omega arith) c.is_any.ensures c.loop-i.invariant.1,
+      make_more c.loop-i.made c.args.nodes.now c.loop-i.i blank c.from.result c.loop-i-test.true (omega arith) c.from.ensures c.loop-i.invariant.1,
     )
 
 whole : (c : goal.After-loop-i) → take (length c.args.nodes.now) c.loop-i.made ≡ rule_nodes_of c.args.nodes.now

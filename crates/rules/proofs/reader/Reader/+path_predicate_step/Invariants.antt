@@ -17,8 +17,8 @@ invariant-path-loop-edge l = Along l.initial.self l.initial.last l.self l.last l
 abbrev pub decreases-path-loop-edge : goal.decreases-path-loop-edge
 decreases-path-loop-edge l = unread l.self
 
-abbrev pub invariant-step-loop-t : goal.invariant-step-loop-t
-invariant-step-loop-t l = Past l.initial.self l.self l.t l.number l.room
+abbrev pub invariant-step-loop-self : goal.invariant-step-loop-self
+invariant-step-loop-self l = Past l.initial.self l.self l.number l.room
 
-abbrev pub decreases-step-loop-t : goal.decreases-step-loop-t
-decreases-step-loop-t l = unread l.self
+abbrev pub decreases-step-loop-self : goal.decreases-step-loop-self
+decreases-step-loop-self l = unread l.self
