@@ -6,36 +6,26 @@ ghost use Rattle.rules.specs.Naming.{OneAnswer, TextParentsFirst, TextsSelect};
 use labels::kind::NameLabel;
 
 // `.//` leads to the proper descendants, and `//` at the front to every node of the listing.
-pub fn readings_are_plain<N: NameLabel>() -> u8
+pub fn readings_are_plain<N: NameLabel>()
     ensures { PlainReadings N.spelled N.alike }
-{
-    0
-}
+{}
 
 // A text has one answer.
-pub fn texts_have_one_answer() -> u8
+pub fn texts_have_one_answer()
     ensures { OneAnswer }
-{
-    0
-}
+{}
 
 // Where a text is refused, the tokens before that place begin some rule text.
-pub fn refusals_follow_beginnings() -> u8
+pub fn refusals_follow_beginnings()
     ensures { RefusalsFollowBeginnings }
-{
-    0
-}
+{}
 
 // In the rule nodes of a text each parent is numbered below its child.
-pub fn parents_come_first() -> u8
+pub fn parents_come_first()
     ensures { TextParentsFirst }
-{
-    0
-}
+{}
 
 // As an expression a text selects the nodes at which its rule occurs, whatever list has its names.
-pub fn texts_select_their_rules<N: NameLabel>() -> u8
+pub fn texts_select_their_rules<N: NameLabel>()
     ensures { TextsSelect N N.eq N.spelled N.alike }
-{
-    0
-}
+{}
