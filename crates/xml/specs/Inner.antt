@@ -20,8 +20,8 @@ use Rattle.xml.specs.declared.fault.Stop.{Stop}
 use Rattle.xml.specs.declared.fault.Stop.TheVariants.{StartTag as start_tag, EndTag as end_tag, End as at_end}
 use Rattle.xml.specs.declared.fault.XmlFault.{XmlFault}
 use Rattle.xml.specs.declared.reader.Xml.{Xml}
-use Rattle.xml.specs.declared.skip.Step.{Step}
-use Rattle.xml.specs.declared.skip.Step.TheVariants.{Past, At}
+use Rattle.std.specs.declared.ops.ControlFlow.{ControlFlow}
+use Rattle.std.specs.declared.ops.ControlFlow.TheVariants.{Continue, Break}
 
 -- Of the scans: what holds of a fault's number and place
 abbrev pub Told : (ℕ → ℕ → Type 0) → ScanFault → Type 0
@@ -69,9 +69,9 @@ stop_markup end_tag = EndTag
 stop_markup at_end = Nothing
 
 -- one step of the way from p on
-abbrev pub Steps : List ℕ → Bool → ℕ → Step → Type 0
-Steps xs inside p (Past q) = GoesBy xs inside p q × (p < q) × (q ≤ length xs)
-Steps xs inside p (At s) = stop_markup s ≡ markup (drop p xs)
+abbrev pub Steps : List ℕ → Bool → ℕ → ControlFlow Stop ℕ → Type 0
+Steps xs inside p (Continue q) = GoesBy xs inside p q × (p < q) × (q ≤ length xs)
+Steps xs inside p (Break s) = stop_markup s ≡ markup (drop p xs)
 
 -- Of the reader: it hands out the first event and keeps the others, or answers the ending
 pub record Hands (s t : Xml) (r : Result (Option (Event Name)) XmlFault) : Type 0 where

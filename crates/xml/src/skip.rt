@@ -8,6 +8,7 @@ ghost use Rattle.xml.specs.declared.fault.Markup.TheVariants.{Comment, Instructi
 
 use crate::fault::{Markup, ScanFault, Stop, XmlFault};
 use labels::spelling::{is_white, starts_name};
+use std::ops::ControlFlow;
 
 // Which markup `<` begins, by the bytes behind it.
 fn behind_bracket(rest: &[u8]) -> Markup
@@ -97,33 +98,27 @@ fn instruction_end(input: &[u8], at: usize) -> Result<usize, ScanFault>
     Ok(close + 2)
 }
 
-// One step of the way: past something to skip, or a stop.
-enum Step {
-    Past(usize),
-    At(Stop),
-}
-
-// What stands at the place.
-fn skip_one(input: &[u8], at: usize, inside: bool) -> Result<Step, XmlFault>
+// What stands at the place: something to go on behind, or a stop.
+fn skip_one(input: &[u8], at: usize, inside: bool) -> Result<ControlFlow<Stop, usize>, XmlFault>
     requires { at ≤ length input.now }
     ensures { MatchResult result (Steps input.now inside at) (Refused input.now inside at) }
 {
     match which(&input[at..]) {
         Markup::Text => {
             if inside || is_white(input[at]) {
-                Ok(Step::Past(at + 1))
+                Ok(ControlFlow::Continue(at + 1))
             } else {
                 Err(XmlFault::Scan(ScanFault::Byte(at)))
             }
         }
-        Markup::Comment => Ok(Step::Past(comment_end(input, at)?)),
-        Markup::Instruction => Ok(Step::Past(instruction_end(input, at)?)),
+        Markup::Comment => Ok(ControlFlow::Continue(comment_end(input, at)?)),
+        Markup::Instruction => Ok(ControlFlow::Continue(instruction_end(input, at)?)),
         Markup::Declaration => Err(XmlFault::NotComment(at)),
         Markup::Cut => Err(XmlFault::Scan(ScanFault::End(input.len()))),
         Markup::Stray => Err(XmlFault::Scan(ScanFault::Byte(at + 1))),
-        Markup::StartTag => Ok(Step::At(Stop::StartTag)),
-        Markup::EndTag => Ok(Step::At(Stop::EndTag)),
-        Markup::Nothing => Ok(Step::At(Stop::End)),
+        Markup::StartTag => Ok(ControlFlow::Break(Stop::StartTag)),
+        Markup::EndTag => Ok(ControlFlow::Break(Stop::EndTag)),
+        Markup::Nothing => Ok(ControlFlow::Break(Stop::End)),
     }
 }
 
@@ -136,8 +131,8 @@ pub fn skip(input: &[u8], place: &mut usize, inside: bool) -> Result<Stop, XmlFa
 {
     loop {
         match skip_one(input, *place, inside)? {
-            Step::Past(next) => *place = next,
-            Step::At(stop) => return Ok(stop),
+            ControlFlow::Continue(next) => *place = next,
+            ControlFlow::Break(stop) => return Ok(stop),
         }
     }
 }

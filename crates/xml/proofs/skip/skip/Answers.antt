@@ -8,5 +8,5 @@ loop-next-init c = (c.requires, here)
 
 pub loop-next-preserved : goal.loop-next-preserved
 loop-next-preserved c =
-    let h = subst (Steps c.args.input.now c.args.inside c.loop-next.place) c.in-Past.is c.in_ok-next.ensures in
+    let h = subst (Steps c.args.input.now c.args.inside c.loop-next.place) c.in-Continue.is c.in_ok-next.ensures in
     (h.2, on c.loop-next.invariant.1 h.0)
