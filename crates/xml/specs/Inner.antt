@@ -1,11 +1,10 @@
 -- What the private functions say.
 use Rattle.std.specs.Prelude.{◌≡◌, ℕ, ◌+◌, ◌<◌, ◌≤◌, Bool, true, false, List, [], ◌∷◌, length, drop, Some, None, Option, Result, ◌≢◌}
-use Rattle.labels.specs.Spelling.{byte, part, white, Longest, Spelled}
+use Rattle.labels.specs.Spelling.{byte, part, Spelled}
 use Rattle.labels.specs.declared.name.Name.{Name}
 use Rattle.sources.specs.declared.event.Event.{Event}
 use Rattle.sources.specs.declared.event.Event.TheVariants.{Open}
 use Rattle.sources.specs.Events.{answer, rest, ClosedFrom}
-use Rattle.xml.specs.Bytes.{plain}
 use Rattle.xml.specs.Faults.{scan_number, scan_place, number, place}
 use Rattle.xml.specs.Markup.{markup, TagEnds}
 use Rattle.xml.specs.Reading.{FindsAt, Room}
@@ -27,22 +26,11 @@ use Rattle.std.specs.declared.ops.ControlFlow.TheVariants.{Continue, Break}
 abbrev pub Told : (ℕ → ℕ → Type 0) → ScanFault → Type 0
 Told D f = D (scan_number f) (scan_place f)
 
--- the first bracket from n on is a `>`, at c
-pub record Bracketed (xs : List ℕ) (n c : ℕ) : Type 0 where
-  pub rest : Longest (λ i. plain (byte xs i)) (length xs) n c
-  pub closes : byte xs c ≡ 62
-
--- it is a `<`, or there is none
-abbrev pub Unbracketed : List ℕ → ℕ → ScanFault → Type 0
-Unbracketed xs n (Byte c) = Longest (λ i. plain (byte xs i)) (length xs) n c × (byte xs c ≡ 60)
-Unbracketed xs n (End c) = Longest (λ i. plain (byte xs i)) (length xs) n c × (c ≡ length xs)
-Unbracketed xs n (LongName c) = ⊥
-
--- no `>` follows the white space from n on
+-- no `>` stands at p
 abbrev pub Unclosed : List ℕ → ℕ → ScanFault → Type 0
-Unclosed xs n (Byte c) = Longest (λ i. white (byte xs i)) (length xs) n c × (c < length xs) × (byte xs c ≢ 62)
-Unclosed xs n (End c) = Longest (λ i. white (byte xs i)) (length xs) n c × (c ≡ length xs)
-Unclosed xs n (LongName c) = ⊥
+Unclosed xs p (Byte c) = (c ≡ p) × (p < length xs) × (byte xs p ≢ 62)
+Unclosed xs p (End c) = (length xs ≤ p) × (c ≡ length xs)
+Unclosed xs p (LongName c) = ⊥
 
 -- Between tags: whether an element is open
 abbrev pub some : List (List ℕ) → Bool

@@ -25,7 +25,6 @@ impl Drop for Guard<'_> {
 
 // Reads on to the root's start tag, and tells where its name stands.
 fn root_name(input: &[u8], place: &mut usize) -> Result<(usize, usize), XmlFault>
-    requires { place.old ≤ length input.now }
     ensures { MatchResult result (λ t. RootNamed input.now place.old t.0 t.1) (RootFails input.now place.old) }
 {
     let stop = skip(input, place, false)?;

@@ -1,12 +1,13 @@
 // What stands between tags.
-ghost use Rattle.std.specs.Prelude.{◌≡◌, ◌+◌, ◌<◌, ◌≤◌, ◌&&◌, length, drop, MatchResult, ◌==◌, slice_index};
+ghost use Rattle.std.specs.Prelude.{◌≡◌, ◌+◌, ◌<◌, ◌≤◌, ◌&&◌, length, drop, MatchResult, ◌==◌, slice_index, not};
 ghost use Rattle.labels.specs.Spelling.{Longest};
 ghost use Rattle.xml.specs.Bytes.{apart};
-ghost use Rattle.xml.specs.Markup.{markup, behind, CommentEnds, IsComment, IsInstruction, CommentFault, InstructionFault};
+ghost use Rattle.xml.specs.Markup.{markup, behind, IsComment, IsInstruction, CommentFault, InstructionFault};
 ghost use Rattle.xml.specs.Inner.{Told, stop_markup, Steps, Refused, Passes};
 ghost use Rattle.xml.specs.declared.fault.Markup.TheVariants.{Comment, Instruction};
 
 use crate::fault::{Markup, ScanFault, Stop, XmlFault};
+use crate::scan::rest;
 use labels::spelling::{is_white, starts_name};
 use std::ops::ControlFlow;
 
@@ -41,41 +42,22 @@ fn which(bytes: &[u8]) -> Markup
     }
 }
 
-// Whether the two bytes stand first.
-fn is_pair(rest: &[u8], first: u8, second: u8) -> bool
-    requires { 0 < second }
-    ensures { result ≡ (slice_index rest.now 0 == first && slice_index rest.now 1 == second) }
+// Whether the two bytes stand at the place.
+fn is_pair(input: &[u8], at: usize, pair: &[u8; 2]) -> bool
+    requires { 0 < slice_index pair.now 1 }
+    ensures { result ≡ not (apart input.now (slice_index pair.now 0) (slice_index pair.now 1) at) }
 {
-    match rest {
-        [a, b, ..] => *a == first && *b == second,
-        _ => false,
-    }
+    rest(input, at).starts_with(pair)
 }
 
 // The first place of the two bytes, or the length.
-fn pair_place(input: &[u8], from: usize, first: u8, second: u8) -> usize
-    requires within { from ≤ length input.now }
-    requires some { 0 < second }
-    ensures { Longest (apart input.now first second) (length input.now) from result }
+fn pair_place(input: &[u8], from: usize, pair: &[u8; 2]) -> usize
+    requires { 0 < slice_index pair.now 1 }
+    ensures { from ≤ length input.now → Longest (apart input.now (slice_index pair.now 0) (slice_index pair.now 1)) (length input.now) from result }
 {
-    let mut at = from;
-    while at < input.len() && !is_pair(&input[at..], first, second) {
-        at += 1;
-    }
-    at
-}
-
-// The end of a comment whose text begins at `from`.
-fn dashes_end(input: &[u8], from: usize) -> Result<usize, ScanFault>
-    requires { from ≤ length input.now }
-    ensures { MatchResult result (CommentEnds input.now from) (Told (CommentFault input.now from)) }
-{
-    let dashes = pair_place(input, from, b'-', b'-');
-    match &input[dashes..] {
-        [_, _, b'>', ..] => Ok(dashes + 3),
-        [_, _, _, ..] => Err(ScanFault::Byte(dashes + 2)),
-        _ => Err(ScanFault::End(input.len())),
-    }
+    (from..input.len())
+        .find(|i| is_pair(input, *i, pair))
+        .unwrap_or(input.len())
 }
 
 // The end of the comment that begins at the place.
@@ -83,7 +65,12 @@ fn comment_end(input: &[u8], at: usize) -> Result<usize, ScanFault>
     requires { markup (drop at input.now) ≡ Comment }
     ensures { MatchResult result (IsComment input.now at) (Told (CommentFault input.now (at + 4))) }
 {
-    dashes_end(input, at + 4)
+    let dashes = pair_place(input, at + 4, b"--");
+    match rest(input, dashes) {
+        [_, _, b'>', ..] => Ok(dashes + 3),
+        [_, _, _, ..] => Err(ScanFault::Byte(dashes + 2)),
+        _ => Err(ScanFault::End(input.len())),
+    }
 }
 
 // The end of the instruction that begins at the place.
@@ -91,7 +78,7 @@ fn instruction_end(input: &[u8], at: usize) -> Result<usize, ScanFault>
     requires { markup (drop at input.now) ≡ Instruction }
     ensures { MatchResult result (IsInstruction input.now at) (Told (InstructionFault input.now at)) }
 {
-    let close = pair_place(input, at + 2, b'?', b'>');
+    let close = pair_place(input, at + 2, b"?>");
     if close >= input.len() {
         return Err(ScanFault::End(input.len()));
     }
@@ -100,10 +87,9 @@ fn instruction_end(input: &[u8], at: usize) -> Result<usize, ScanFault>
 
 // What stands at the place: something to go on behind, or a stop.
 fn skip_one(input: &[u8], at: usize, inside: bool) -> Result<ControlFlow<Stop, usize>, XmlFault>
-    requires { at ≤ length input.now }
     ensures { MatchResult result (Steps input.now inside at) (Refused input.now inside at) }
 {
-    match which(&input[at..]) {
+    match which(rest(input, at)) {
         Markup::Text => {
             if inside || is_white(input[at]) {
                 Ok(ControlFlow::Continue(at + 1))
@@ -124,8 +110,7 @@ fn skip_one(input: &[u8], at: usize, inside: bool) -> Result<ControlFlow<Stop, u
 
 // Reads on to the next tag or the end, and tells which.
 pub fn skip(input: &[u8], place: &mut usize, inside: bool) -> Result<Stop, XmlFault>
-    requires { place.old ≤ length input.now }
-    ensures within { place.new ≤ length input.now }
+    ensures within { place.old ≤ length input.now → place.new ≤ length input.now }
     ensures passes { Passes input.now inside place.old place.new }
     ensures found { MatchResult result (λ s. stop_markup s ≡ markup (drop place.new input.now)) (Refused input.now inside place.new) }
 {

@@ -6,7 +6,6 @@ use Rattle.xml.specs.declared.fault.Markup.TheVariants.{EndTag}
 use Rattle.xml.specs.declared.fault.XmlFault.TheVariants.{Scan, WrongName}
 use Rattle.xml.proofs.Once.{standing}
 use Rattle.xml.proofs.Between.{found}
-use Rattle.xml.proofs.Ends.{unclosed_tag}
 use Rattle.xml.proofs.Steps.{refused_hands, innermost_is}
 use Rattle.xml.proofs.reader.Xml.end_tag.Goals as goal
 
@@ -34,7 +33,7 @@ returns-in_err-close c =
     let f = c.in_err-close.field-0.0 in
     rw (p.1, p.2) (refused_hands s (Scan f) c.requires.still
     (found _ _ _ _ EndTag _ (sym c.requires.tag)
-    (end_fault c.in_ok-name.name c.in_ok-name.ensures (d.0 refl) (unclosed_tag xs c.in_ok-name.name f c.in_err-close.ensures))))
+    (end_fault c.in_ok-name.name c.in_ok-name.ensures (d.0 refl) (c.in_err-close.ensures c.in_ok-name.ensures.0.ends.within))))
 
 pub returns : goal.returns
 returns c =
@@ -43,7 +42,7 @@ returns c =
     let q = c.in_ok-close.close in
     let h = c.if-not-is_innermost.ensures in
     let d = innermost_is xs s.opened s.depth _ _ h.none h.some in
-    let t = c.in_ok-close.ensures in
+    let t = c.in_ok-close.ensures c.in_ok-name.ensures.0.ends.within in
     record {
       found = found _ _ _ _ EndTag _ (sym c.requires.tag) (end_tag (d.0 refl) (record { name = c.in_ok-name.ensures; close = q; tag = t; ends = refl }));
       within = omega (arith, standing xs q 62 t.closes (omega arith));
