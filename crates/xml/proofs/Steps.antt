@@ -1,5 +1,6 @@
 -- How a reader's meaning goes on.
-use Rattle.std.proofs.Common.{◌≡◌, ℕ, zero, suc, ◌+◌, ◌-◌, ◌<◌, ◌≤◌, Bool, true, false, ltb, ◌≢◌, List, [], ◌∷◌, map, length, set, Some, None, Ok, Err, Decides, Option, Result, sym, refl, ap, ◌∙◌, subst, inl, inr, add-one, arith, get_or-set_other, get_or-set_same, lt-ltb}
+use Rattle.std.proofs.Common.{◌≡◌, ℕ, zero, suc, ◌+◌, ◌-◌, ◌<◌, ◌≤◌, Bool, true, false, not, eqb, List, [], ◌∷◌, ◌++◌, map, reverse, length, take, drop, slice_get, Some, None, Ok, Err, Decides, IsSome, Option, Result, Bor, sym, refl, ap, ◌∙◌, subst, inl, inr, arith, drop-cons}
+use Rattle.std.specs.Option.{option_to_list}
 use Rattle.sources.specs.declared.event.Event.{Event}
 use Rattle.sources.specs.declared.event.Event.TheVariants.{Open, Close}
 use Rattle.sources.specs.Events.{answer, rest, ClosedFrom}
@@ -13,10 +14,13 @@ use Rattle.xml.specs.declared.reader.Xml.{Xml}
 use Rattle.xml.specs.Reading.Found.{finishes, opens, closes, refuses}
 use Rattle.xml.specs.Reading.Reads.{done, refused, skipped, opened, opened_empty, closed}
 use Rattle.xml.specs.Total.{reading}
-use Rattle.xml.specs.Spans.{no_span, span, spanned, LastIs, open_names}
-use Rattle.xml.specs.declared.reader.Span.{Span}
-use Rattle.std.proofs.lemmas.Bool.{cases_Bool, both_ways}
-use Rattle.xml.specs.Means.{labelled, pending, begun_by, xml_names, xml_events, xml_ending, xml_meaning, xml_bytes, Looks, Fails}
+use Rattle.std.proofs.lemmas.List.{length-reverse, length-map, map-append, reverse-append, take-append-drop, drop_all}
+use Rattle.std.proofs.lemmas.Option.{slice_get_within, get_or_from_slice_get}
+use Rattle.std.proofs.lemmas.Slice.Eq.{slice_eq-Decides}
+use Rattle.std.proofs.lemmas.Bool.Decides.{Decides-eqb}
+use Rattle.std.specs.Str.{bytes_eq}
+use Rattle.std.proofs.lemmas.Bool.{cases_Bool, both_ways, ne_eqb}
+use Rattle.xml.specs.Means.{labelled, pending, begun_by, open_names, xml_names, xml_events, xml_ending, xml_meaning, xml_bytes, Looks, Fails}
 use Rattle.xml.specs.Inner.{some, Passes, Hands, RootNamed, RootFails}
 use Rattle.xml.specs.Inner.Passes.{here, on}
 use Rattle.labels.specs.declared.name.Name.{Name}
@@ -78,34 +82,32 @@ passes_same xs inside p q names rooted d i =
     let t = reading xs q names rooted in
     means xs p names rooted t.events t.ending (passed xs inside p q names rooted t.events t.ending d i t.reads)
 
-pub none_open : (xs : List ℕ) (spans : List Span) (d : ℕ) → d ≡ 0 → open_names xs spans d ≡ []
-none_open xs spans zero h = refl
-none_open xs spans (suc d) h = absurd (omega arith)
+pub none_open : (names : List (Bor (List ℕ))) → length names ≡ 0 → open_names names ≡ []
+none_open [] h = refl
+none_open (n ∷ ns) h = absurd (omega arith)
 
-pub length_names : (xs : List ℕ) (spans : List Span) (d : ℕ) → length (open_names xs spans d) ≡ d
-length_names xs spans zero = refl
-length_names xs spans (suc d) = ap suc (length_names xs spans d)
+pub length_names : (names : List (Bor (List ℕ))) → length (open_names names) ≡ length names
+length_names names = length-reverse (map (λ n. n.now) names) ∙ length-map names (λ n. n.now)
 
-pub pop_names : (xs : List ℕ) (spans : List Span) (d : ℕ) → 0 < d → open_names xs spans d ≡ spanned xs (span spans (d - 1)) ∷ open_names xs spans (d - 1)
-pop_names xs spans zero h = absurd (omega arith)
-pop_names xs spans (suc d) h = let e : d ≡ suc d - 1 = omega arith in rw (← e)
+pub push_names : (names : List (Bor (List ℕ))) (n : Bor (List ℕ)) → open_names (names ++ n ∷ []) ≡ n.now ∷ open_names names
+push_names names n = ap reverse (map-append (λ m. m.now) names (n ∷ [])) ∙ reverse-append (map (λ m. m.now) names) (n.now ∷ [])
 
-kept_names : (xs : List ℕ) (spans : List Span) (i d : ℕ) (s : Span) → d ≤ i → open_names xs (set spans i s) d ≡ open_names xs spans d
-kept_names xs spans i zero s h = refl
-kept_names xs spans i (suc d) s h =
-    let ne : d ≢ i = omega arith in
-    let a = get_or-set_other spans i d s no_span ne in
-    let c = kept_names xs spans i d s (omega arith) in
-    λ k. spanned xs (a k) ∷ c k
+-- what a pop leaves
+pub pop_names : (names rest : List (Bor (List ℕ))) (r : Option (Bor (List ℕ))) → names ≡ rest ++ option_to_list r → IsSome r → (w : List ℕ) × (open_names names ≡ w ∷ open_names rest)
+pop_names names rest None e h = absurd (both_ways false refl h)
+pop_names names rest (Some n) e h = (n.now, ap open_names e ∙ push_names rest n)
 
-pub push_names : (xs : List ℕ) (spans : List Span) (d p n : ℕ) → d < length spans → p ≤ n →
-    open_names xs (set spans d (record { start = p; len = n - p })) (d + 1) ≡ part xs p n ∷ open_names xs spans d
-push_names xs spans d p n h l =
-    let s : Span = record { start = p; len = n - p } in
-    let a = get_or-set_same spans d s no_span h in
-    let c = kept_names xs spans d d s (omega arith) in
-    let e : p + (n - p) ≡ n = omega arith in
-    ap (open_names xs (set spans d s)) (add-one d) ∙ (λ k. spanned xs (a k) ∷ c k) ∙ ap (λ m. part xs p m ∷ open_names xs spans d) e
+-- the last name is the innermost
+pub last_innermost : (names : List (Bor (List ℕ))) (n : Bor (List ℕ)) (w : List ℕ) (b : Bool) → Some n ≡ slice_get names (length names - 1) → b ≡ bytes_eq n.now w →
+    Decides b (Innermost (open_names names) w)
+last_innermost names n w b e f =
+    let i = length names - 1 in
+    let h : i < length names = slice_get_within names i n (sym e) in
+    let behind : drop (suc i) names ≡ [] = drop_all (suc i) names (omega arith) in
+    let split : names ≡ take i names ++ n ∷ [] =
+    sym (take-append-drop i names) ∙ ap (λ t. take i names ++ t) (drop-cons names i n h ∙ (λ k. get_or_from_slice_get names i n n (sym e) k ∷ behind k)) in
+    let d = slice_eq-Decides Decides-eqb n.now w b f in
+    subst (λ ns. Decides b (Innermost ns w)) (sym (ap open_names split ∙ push_names (take i names) n)) (λ t. sym (d.0 t), λ q. d.1 (sym q))
 
 finish_empty : (xs : List ℕ) (p : ℕ) (names : List (List ℕ)) (rooted : Bool) (k : Markup) → Finds xs p names rooted k finishes → names ≡ []
 finish_empty xs p names rooted k (finish a b) = a
@@ -163,14 +165,14 @@ empty_hands s t r e f b g =
     let h = gives_empty s.closing _ _ _ _ r e g in
     record { first = h.first; others = ap (λ x. map labelled (pending x (xml_meaning t).events)) f ∙ h.others; ending = h.ending; nested = nested s; begun = b }
 
-pub room : (xs : List ℕ) (spans : List Span) (d : ℕ) (rooted : Bool) → d < levels → (d ≡ 0 → rooted ≡ false) → Room (open_names xs spans d) rooted
-room xs spans d rooted h g =
-    let l = length_names xs spans d in
-    record { alone = λ e. let z : length (open_names xs spans d) ≡ 0 = ap length e in g (omega arith); few = omega arith }
+pub room : (names : List (Bor (List ℕ))) (rooted : Bool) → length names < levels → (length names ≡ 0 → rooted ≡ false) → Room (open_names names) rooted
+room names rooted h g =
+    let l = length_names names in
+    record { alone = λ e. let z : length (open_names names) ≡ 0 = ap length e in g (omega arith); few = omega arith }
 
-pub some_ltb : (xs : List ℕ) (spans : List Span) (d : ℕ) → some (open_names xs spans d) ≡ ltb 0 d
-some_ltb xs spans zero = refl
-some_ltb xs spans (suc d) = sym (lt-ltb 0 (suc d) (omega arith))
+pub some_open : (names : List (List ℕ)) → some names ≡ not (eqb (length names) 0)
+some_open [] = refl
+some_open (n ∷ ns) = sym (ap not (ne_eqb (length (n ∷ ns)) 0 (λ e. omega arith)))
 
 -- what goes by first, and then nothing is handed out
 pub record Stays (es : List (Event (List ℕ))) (end : Option XmlFault) (ds : List (Event (List ℕ))) (to : Option XmlFault) (b : Bool) (r : Result (Option (Event Name)) XmlFault) : Type 0 where
@@ -191,15 +193,9 @@ stays xs inside p q names rooted b r e d i g =
       ending = sym s.1;
     }
 
-pub open_found : (xs : List ℕ) (p : ℕ) (spans : List Span) (d : ℕ) (rooted : Bool) (k : Markup) (q : ℕ) → Finds xs p (open_names xs spans d) rooted k (closes q) → 0 < d
-open_found xs p spans zero rooted k q (end_tag i f) = absurd i
-open_found xs p spans (suc d) rooted k q f = omega arith
-
-pub innermost_is : (xs : List ℕ) (spans : List Span) (d : ℕ) (w : List ℕ) (r : Bool) → (d ≡ 0 → r ≡ false) → (0 < d → Decides r (LastIs xs spans d w)) → Decides r (Innermost (open_names xs spans d) w)
-innermost_is xs spans zero w r n h = (λ e. both_ways r (n refl) e, λ i. absurd i)
-innermost_is xs spans (suc d) w r n h =
-    let e : suc d - 1 ≡ d = omega arith in
-    subst (λ k. Decides r (w ≡ spanned xs (span spans k))) e (h (omega arith))
+pub open_found : (xs : List ℕ) (p : ℕ) (names : List (List ℕ)) (rooted : Bool) (k : Markup) (q : ℕ) → Finds xs p names rooted k (closes q) → 0 < length names
+open_found xs p [] rooted k q (end_tag i f) = absurd i
+open_found xs p (n ∷ ns) rooted k q f = omega arith
 
 pub root_fails : (xs : List ℕ) (p q : ℕ) (f : XmlFault) → Passes xs false p q → FindsAt xs q [] false (refuses (number f) (place f)) → RootFails xs p f
 root_fails xs p q f d g =
@@ -207,24 +203,24 @@ root_fails xs p q f d g =
     let m = means xs q [] false [] (Some f) (refused f g) in
     record { none = s.0 ∙ m.0; ends = s.1 ∙ m.1 }
 
-pub root_named : (xs : List ℕ) (p q n r : ℕ) (e : Bool) → Passes xs false p q → q + 1 ≤ n → n ≤ length xs → FindsAt xs q [] false (opens n r e) → RootNamed xs p (q + 1) n
-root_named xs p q n r false d o w g =
+pub root_named : (xs : List ℕ) (p q n r : ℕ) (e : Bool) (w : List ℕ) → w ≡ part xs (q + 1) n → Passes xs false p q → FindsAt xs q [] false (opens n r e) → RootNamed xs p w
+root_named xs p q n r false w c d g =
     let s = passes_same xs false p q [] false d refl in
     let t = reading xs r (part xs (q + 1) n ∷ []) true in
     let m = means xs q [] false _ _ (opened g t.reads) in
-    record { others = t.events; first = s.0 ∙ m.0; order = o; within = w }
-root_named xs p q n r true d o w g =
+    record { others = t.events; first = s.0 ∙ m.0 ∙ ap (λ x. Open x ∷ t.events) (sym c); from = q + 1; to = n; cut = c }
+root_named xs p q n r true w c d g =
     let s = passes_same xs false p q [] false d refl in
     let t = reading xs r [] true in
     let m = means xs q [] false _ _ (opened_empty g t.reads) in
-    record { others = Close ∷ t.events; first = s.0 ∙ m.0; order = o; within = w }
+    record { others = Close ∷ t.events; first = s.0 ∙ m.0 ∙ ap (λ x. Open x ∷ Close ∷ t.events) (sym c); from = q + 1; to = n; cut = c }
 
 pub root_room : Room [] false
 root_room = record { alone = λ _. refl; few = omega arith }
 
 -- before the root a reader means what the bytes mean with nothing open
 early_names : (s : Xml) → s.rooted ≡ false → (xml_names s ≡ []) × (s.closing ≡ false)
-early_names s e = let h = s.fresh e in (none_open s.input.now s.opened s.depth h.0, h.1)
+early_names s e = let h = s.fresh e in (ap open_names h.0, h.1)
 
 early_bytes : (s : Xml) → s.rooted ≡ false →
     (xml_bytes s ≡ (reading s.input.now s.place [] false).events) × (xml_ending s ≡ (reading s.input.now s.place [] false).ending)
@@ -236,12 +232,11 @@ early_bytes s e =
 pub begun_closing : (s : Xml) → s.closing ≡ true → s.rooted ≡ true
 begun_closing s e = elim (cases_Bool s.rooted) [ inl r ↦ r | inr r ↦ absurd (both_ways _ (s.fresh r).1 e) ]
 
-pub begun_open : (s : Xml) → 0 < s.depth → s.rooted ≡ true
-begun_open s d = elim (cases_Bool s.rooted) [ inl r ↦ r | inr r ↦ let z = (s.fresh r).0 in absurd (omega arith) ]
+pub begun_open : (s : Xml) → 0 < length (xml_names s) → s.rooted ≡ true
+begun_open s d = elim (cases_Bool s.rooted) [ inl r ↦ r | inr r ↦ let z : length (xml_names s) ≡ 0 = ap length (early_names s r).0 in absurd (omega arith) ]
 
-pub looks : (s : Xml) (a b : ℕ) (w : List ℕ) → s.rooted ≡ false → w ≡ part s.input.now a b → RootNamed s.input.now s.place a b → Looks s w
-looks s a b w e f r =
-    record { early = e; others = r.others; first = (early_bytes s e).0 ∙ r.first ∙ ap (λ x. Open x ∷ r.others) (sym f); from = a; to = b; cut = f }
+pub looks : (s : Xml) (w : List ℕ) → s.rooted ≡ false → RootNamed s.input.now s.place w → Looks s w
+looks s w e r = record { early = e; others = r.others; first = (early_bytes s e).0 ∙ r.first; from = r.from; to = r.to; cut = r.cut }
 
 pub fails : (s : Xml) (f : XmlFault) → s.rooted ≡ false → RootFails s.input.now s.place f → Fails s f
 fails s f e r = let h = early_bytes s e in record { early = e; none = h.0 ∙ r.none; ends = h.1 ∙ r.ends }

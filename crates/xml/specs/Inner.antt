@@ -1,5 +1,5 @@
 -- What the private functions say.
-use Rattle.std.specs.Prelude.{◌≡◌, ℕ, ◌+◌, ◌<◌, ◌≤◌, Bool, true, false, List, [], ◌∷◌, length, drop, Some, None, Option, Result, ◌≢◌}
+use Rattle.std.specs.Prelude.{◌≡◌, ℕ, ◌+◌, ◌-◌, ◌<◌, ◌≤◌, Bool, true, false, List, [], ◌∷◌, length, drop, Some, None, Option, Result, ◌==◌, ◌≢◌}
 use Rattle.labels.specs.Spelling.{byte, part, Spelled}
 use Rattle.labels.specs.declared.name.Name.{Name}
 use Rattle.sources.specs.declared.event.Event.{Event}
@@ -19,6 +19,7 @@ use Rattle.xml.specs.declared.fault.Stop.{Stop}
 use Rattle.xml.specs.declared.fault.Stop.TheVariants.{StartTag as start_tag, EndTag as end_tag, End as at_end}
 use Rattle.xml.specs.declared.fault.XmlFault.{XmlFault}
 use Rattle.xml.specs.declared.reader.Xml.{Xml}
+use Rattle.xml.specs.declared.scan.Opening.{Opening}
 use Rattle.std.specs.declared.ops.ControlFlow.{ControlFlow}
 use Rattle.std.specs.declared.ops.ControlFlow.TheVariants.{Continue, Break}
 
@@ -31,6 +32,16 @@ abbrev pub Unclosed : List ℕ → ℕ → ScanFault → Type 0
 Unclosed xs p (Byte c) = (c ≡ p) × (p < length xs) × (byte xs p ≢ 62)
 Unclosed xs p (End c) = (length xs ≤ p) × (c ≡ length xs)
 Unclosed xs p (LongName c) = ⊥
+
+-- a start tag whose name begins at b
+pub record Tagged (xs : List ℕ) (b : ℕ) (t : Opening) : Type 0 where
+  pub stop : ℕ
+  pub close : ℕ
+  pub spelled : Spelled xs b stop
+  pub name : t.name.now ≡ part xs b stop
+  pub rest : TagEnds xs stop close
+  pub ends : t.end ≡ close + 1
+  pub slash : t.empty ≡ (byte xs (close - 1) == 47)
 
 -- Between tags: whether an element is open
 abbrev pub some : List (List ℕ) → Bool
@@ -78,24 +89,24 @@ pub record Comes (s t : Xml) (k : Stop) : Type 0 where
   pub still : t.closing ≡ false
   pub markup : markup (drop t.place t.input.now) ≡ stop_markup k
 
--- a start tag at its place may open an element: the name ends at n, and the `>` stands at c
-pub record Opens (s : Xml) (n c : ℕ) : Type 0 where
+-- a start tag at its place may open an element
+pub record Opens (s : Xml) (t : Opening) : Type 0 where
   pub begins : markup (drop s.place s.input.now) ≡ StartTag
   pub room : Room (xml_names s) s.rooted
-  pub name : Spelled s.input.now (s.place + 1) n
-  pub tag : TagEnds s.input.now n c
+  pub tag : Tagged s.input.now (s.place + 1) t
 
 -- an end tag at its place, which ends at q, closes the innermost element
 pub record Closes (s : Xml) (q : ℕ) : Type 0 where
   pub found : FindsAt s.input.now s.place (xml_names s) s.rooted (closes q)
   pub within : q ≤ length s.input.now
 
--- Of a look ahead: the root's name stands from a to b
-pub record RootNamed (xs : List ℕ) (p a b : ℕ) : Type 0 where
+-- Of a look ahead: the root's name is a part of the input
+pub record RootNamed (xs : List ℕ) (p : ℕ) (w : List ℕ) : Type 0 where
   pub others : List (Event (List ℕ))
-  pub first : (reading xs p [] false).events ≡ Open (part xs a b) ∷ others
-  pub order : a ≤ b
-  pub within : b ≤ length xs
+  pub first : (reading xs p [] false).events ≡ Open w ∷ others
+  pub from : ℕ
+  pub to : ℕ
+  pub cut : w ≡ part xs from to
 
 -- the listing ends in the fault before any event
 pub record RootFails (xs : List ℕ) (p : ℕ) (f : XmlFault) : Type 0 where

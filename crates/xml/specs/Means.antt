@@ -1,20 +1,23 @@
 -- What a reader means at its place, and what a look ahead answers.
-use Rattle.std.specs.Prelude.{◌≡◌, ℕ, Bool, true, false, List, [], ◌∷◌, map, Some, None, Ok, Err, Option, Result}
+use Rattle.std.specs.Prelude.{◌≡◌, ℕ, Bool, true, false, List, [], ◌∷◌, map, reverse, Some, None, Ok, Err, Option, Result}
+use denote.Ref.{Bor}
 use Rattle.labels.specs.Spelling.{part}
 use Rattle.labels.specs.Names.{name_of}
 use Rattle.labels.specs.declared.name.Name.{Name}
 use Rattle.sources.specs.declared.event.Event.{Event}
 use Rattle.sources.specs.declared.event.Event.TheVariants.{Open, Close}
 use Rattle.xml.specs.Total.{Meaning, reading}
-use Rattle.xml.specs.Spans.{open_names}
 use Rattle.xml.specs.declared.fault.XmlFault.{XmlFault}
 use Rattle.xml.specs.declared.fault.LookFault.{LookFault}
 use Rattle.xml.specs.declared.fault.LookFault.TheVariants.{Listing, Begun}
 use Rattle.xml.specs.declared.reader.Xml.{Xml}
 
--- the names of the open elements, innermost first
+-- the bytes of the names of the open elements, innermost first
+abbrev pub open_names : List (Bor (List ℕ)) → List (List ℕ)
+open_names names = reverse (map (λ n. n.now) names)
+
 abbrev pub xml_names : Xml → List (List ℕ)
-xml_names s = open_names s.input.now s.opened s.depth
+xml_names s = open_names s.opened.items
 
 -- the meaning of the input from the place on
 abbrev pub xml_meaning : (s : Xml) → Meaning s.input.now s.place (xml_names s) s.rooted
@@ -71,7 +74,6 @@ NoLook s (Listing f) = Fails s f
 pub record Unmoved (s t : Xml) : Type 0 where
   pub input : t.input.now ≡ s.input.now
   pub place : t.place ≡ s.place
-  pub depth : t.depth ≡ s.depth
   pub opened : t.opened ≡ s.opened
   pub rooted : t.rooted ≡ s.rooted
   pub closing : t.closing ≡ s.closing

@@ -23,22 +23,19 @@ impl Drop for Guard<'_> {
     }
 }
 
-// Reads on to the root's start tag, and tells where its name stands.
-fn root_name(input: &[u8], place: &mut usize) -> Result<(usize, usize), XmlFault>
-    ensures { MatchResult result (λ t. RootNamed input.now place.old t.0 t.1) (RootFails input.now place.old) }
+// Reads on to the root's start tag, and answers its name.
+fn root_name<'a>(input: &'a [u8], place: &mut usize) -> Result<&'a [u8], XmlFault>
+    ensures { MatchResult result (λ w. RootNamed input.now place.old w.now) (RootFails input.now place.old) }
 {
     let stop = skip(input, place, false)?;
     let at = *place;
     match stop {
-        Stop::StartTag => {
-            let (end, _) = start_tag(input, at + 1)?;
-            Ok((at + 1, end))
-        }
+        Stop::StartTag => Ok(start_tag(input, at + 1)?.name),
         Stop::EndTag => {
             name_end(input, at + 2)?;
             Err(XmlFault::WrongName(at + 2))
         }
-        Stop::End => Err(XmlFault::Scan(ScanFault::End(input.len()))),
+        Stop::End => Err(ScanFault::End(input.len()).into()),
     }
 }
 
@@ -55,8 +52,7 @@ impl<'a> Xml<'a> {
             place: &mut self.place,
             saved,
         };
-        let (from, to) = root_name(input, guard.place)?;
-        Ok(&input[from..to])
+        root_name(input, guard.place)
     }
 
     // The root's name, before the first event.

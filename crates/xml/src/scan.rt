@@ -3,7 +3,7 @@ ghost use Rattle.std.specs.Prelude.{◌≡◌, ◌≤◌, length, drop, MatchRes
 ghost use Rattle.labels.specs.Spelling.{byte, Longest, Spelled};
 ghost use Rattle.xml.specs.Bytes.{plain};
 ghost use Rattle.xml.specs.Markup.{TagEnds, EndEnds, NameFault, TagFault, StartFault, EndFault};
-ghost use Rattle.xml.specs.Inner.{Told, Unclosed};
+ghost use Rattle.xml.specs.Inner.{Told, Unclosed, Tagged};
 
 use crate::fault::ScanFault;
 use labels::spelling;
@@ -65,13 +65,25 @@ fn tag_end(input: &[u8], at: usize) -> Result<usize, ScanFault>
     }
 }
 
-// The end of the name of a start tag, which begins at `from`, and the place of the tag's `>`.
-pub fn start_tag(input: &[u8], from: usize) -> Result<(usize, usize), ScanFault>
-    ensures { MatchResult result (λ t. Spelled input.now from t.0 × TagEnds input.now t.0 t.1) (Told (StartFault input.now from)) }
+// A start tag: its name, the place behind the tag, and whether the element is empty.
+#[derive(Clone, Copy)]
+pub struct Opening<'a> {
+    pub name: &'a [u8],
+    pub end: usize,
+    pub empty: bool,
+}
+
+// The start tag whose name begins at the place.
+pub fn start_tag(input: &[u8], at: usize) -> Result<Opening<'_>, ScanFault>
+    ensures { MatchResult result (Tagged input.now at) (Told (StartFault input.now at)) }
 {
-    let name = name_end(input, from)?;
-    let close = tag_end(input, name)?;
-    Ok((name, close))
+    let name_end = name_end(input, at)?;
+    let close = tag_end(input, name_end)?;
+    Ok(Opening {
+        name: &input[at..name_end],
+        end: close + 1,
+        empty: input[close - 1] == b'/',
+    })
 }
 
 // The place of the `>` that ends an end tag, whose name ends at `at`.

@@ -94,14 +94,14 @@ fn skip_one(input: &[u8], at: usize, inside: bool) -> Result<ControlFlow<Stop, u
             if inside || is_white(input[at]) {
                 Ok(ControlFlow::Continue(at + 1))
             } else {
-                Err(XmlFault::Scan(ScanFault::Byte(at)))
+                Err(ScanFault::Byte(at).into())
             }
         }
         Markup::Comment => Ok(ControlFlow::Continue(comment_end(input, at)?)),
         Markup::Instruction => Ok(ControlFlow::Continue(instruction_end(input, at)?)),
         Markup::Declaration => Err(XmlFault::NotComment(at)),
-        Markup::Cut => Err(XmlFault::Scan(ScanFault::End(input.len()))),
-        Markup::Stray => Err(XmlFault::Scan(ScanFault::Byte(at + 1))),
+        Markup::Cut => Err(ScanFault::End(input.len()).into()),
+        Markup::Stray => Err(ScanFault::Byte(at + 1).into()),
         Markup::StartTag => Ok(ControlFlow::Break(Stop::StartTag)),
         Markup::EndTag => Ok(ControlFlow::Break(Stop::EndTag)),
         Markup::Nothing => Ok(ControlFlow::Break(Stop::End)),

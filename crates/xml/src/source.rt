@@ -5,17 +5,17 @@ ghost use Rattle.labels.specs.Names.{name_of};
 ghost use Rattle.sources.specs.Events.{ClosedFrom, answer, rest};
 ghost use Rattle.sources.specs.declared.event.Event.{Event};
 ghost use Rattle.xml.specs.Markup.{markup};
-ghost use Rattle.xml.specs.Reading.{Reads};
-ghost use Rattle.xml.specs.Documents.{Document, DocumentFrom};
-ghost use Rattle.xml.specs.Spans.{LastIs};
-ghost use Rattle.xml.specs.Means.{xml_events, xml_ending, xml_bytes, begun_by};
+ghost use Rattle.xml.specs.Reading.{Innermost, Reads};
+ghost use Rattle.xml.specs.Documents.{Document};
+ghost use Rattle.xml.specs.Means.{xml_names, xml_events, xml_ending, xml_bytes, begun_by};
 ghost use Rattle.xml.specs.Inner.{Hands, Comes, Opens, Closes};
 ghost use Rattle.xml.specs.declared.fault.Markup.TheVariants.{Nothing, StartTag, EndTag};
 
 use crate::fault::{ScanFault, Stop, XmlFault};
-use crate::reader::{LEVELS, Span, Xml};
-use crate::scan::{end_tag_end, name_end, start_tag};
+use crate::reader::Xml;
+use crate::scan::{Opening, end_tag_end, name_end, start_tag};
 use crate::skip::skip;
+use arrayvec::ArrayVec;
 use labels::name::Name;
 use sources::event::Event;
 use sources::source::Source;
@@ -31,32 +31,7 @@ fn label(bytes: &[u8]) -> Name
     }
 }
 
-// Whether the bytes are the same.
-fn same(a: &[u8], b: &[u8]) -> bool
-    ensures { Decides result (a.now ≡ b.now) }
-{
-    a == b
-}
-
 impl<'a> Xml<'a> {
-    // A reader that starts at the place.
-    fn at(input: &'a [u8], place: usize) -> Xml<'a>
-        requires { place ≤ length input.now }
-        ensures fresh { result.rooted ≡ false }
-        ensures reads { Reads input.now place [] false (xml_bytes result) (xml_ending result) }
-        ensures done { xml_ending result ≡ None → DocumentFrom input.now place (xml_bytes result) }
-        ensures right { (es : List (Event (List ℕ))) → DocumentFrom input.now place es → (xml_bytes result ≡ es) × (xml_ending result ≡ None) }
-    {
-        Xml {
-            input,
-            place,
-            depth: 0,
-            opened: [Span { start: 0, len: 0 }; LEVELS],
-            rooted: false,
-            closing: false,
-        }
-    }
-
     // A reader of the input.
     pub fn new(input: &'a [u8]) -> Xml<'a>
         ensures fresh { result.rooted ≡ false }
@@ -64,46 +39,45 @@ impl<'a> Xml<'a> {
         ensures done { xml_ending result ≡ None → Document input.now (xml_bytes result) }
         ensures right { (es : List (Event (List ℕ))) → Document input.now es → (xml_bytes result ≡ es) × (xml_ending result ≡ None) }
     {
-        Xml::at(input, 0)
+        Xml {
+            input,
+            place: 0,
+            opened: ArrayVec::new(),
+            rooted: false,
+            closing: false,
+        }
     }
 
-    // The start tag at the place: where its name ends, and where its `>` stands.
-    fn start_tag(&self) -> Result<(usize, usize), XmlFault>
+    // The start tag at the place.
+    fn start_tag(&self) -> Result<Opening<'a>, XmlFault>
         requires tag { markup (drop self.now.place self.now.input.now) ≡ StartTag }
         requires still { self.now.closing ≡ false }
-        ensures { MatchResult result (λ t. Opens self.now t.0 t.1) (λ f. Hands self.now self.now (Err f)) }
+        ensures { MatchResult result (Opens self.now) (λ f. Hands self.now self.now (Err f)) }
     {
         let at = self.place;
-        if self.depth == 0 && self.rooted {
-            return Err(XmlFault::Scan(ScanFault::Byte(at)));
+        if self.opened.is_empty() && self.rooted {
+            return Err(ScanFault::Byte(at).into());
         }
-        if self.depth >= LEVELS {
+        if self.opened.is_full() {
             return Err(XmlFault::Deep(at));
         }
         Ok(start_tag(self.input, at + 1)?)
     }
 
     // Opens the element of that start tag.
-    fn open_element(&mut self, name: usize, close: usize) -> Event<Name>
-        requires tag { Opens self.old name close }
+    fn open_element(&mut self, tag: Opening<'a>) -> Event<Name>
+        requires tag { Opens self.old tag }
         requires still { self.old.closing ≡ false }
         ensures { Hands self.old self.new (Ok (Some result)) }
     {
-        let input = self.input;
-        let start = self.place + 1;
-        let label = label(&input[start..name]);
         self.rooted = true;
-        self.place = close + 1;
-        if input[close - 1] == b'/' {
+        self.place = tag.end;
+        if tag.empty {
             self.closing = true;
-            return Event::Open(label);
+        } else {
+            self.opened.push(tag.name);
         }
-        self.opened[self.depth] = Span {
-            start,
-            len: name - start,
-        };
-        self.depth += 1;
-        Event::Open(label)
+        Event::Open(label(tag.name))
     }
 
     // Closes an empty element.
@@ -121,20 +95,18 @@ impl<'a> Xml<'a> {
         requires still { self.old.closing ≡ false }
         ensures { Hands self.old self.new result }
     {
-        let (name, close) = self.start_tag()?;
-        Ok(Some(self.open_element(name, close)))
+        let tag = self.start_tag()?;
+        Ok(Some(self.open_element(tag)))
     }
 
     // Whether the name is the innermost open element's.
     fn is_innermost(&self, name: &[u8]) -> bool
-        ensures none { self.now.depth ≡ 0 → result ≡ false }
-        ensures some { 0 < self.now.depth → Decides result (LastIs self.now.input.now self.now.opened self.now.depth name.now) }
+        ensures { Decides result (Innermost (xml_names self.now) name.now) }
     {
-        if self.depth == 0 {
-            return false;
+        match self.opened.last() {
+            Some(innermost) => *innermost == name,
+            None => false,
         }
-        let Span { start, len } = self.opened[self.depth - 1];
-        same(name, &self.input[start..start + len])
     }
 
     // The end tag at the place: where it ends.
@@ -159,7 +131,7 @@ impl<'a> Xml<'a> {
         requires still { self.old.closing ≡ false }
         ensures { Hands self.old self.new (Ok (Some result)) }
     {
-        self.depth -= 1;
+        self.opened.pop();
         self.place = end;
         Event::Close
     }
@@ -180,7 +152,7 @@ impl<'a> Xml<'a> {
         ensures { MatchResult result (Comes self.old self.new) (λ f. Hands self.old self.new (Err f)) }
     {
         let input = self.input;
-        let inside = self.depth > 0;
+        let inside = !self.opened.is_empty();
         skip(input, &mut self.place, inside)
     }
 
@@ -190,10 +162,10 @@ impl<'a> Xml<'a> {
         requires still { self.now.closing ≡ false }
         ensures { Hands self.now self.now result }
     {
-        if self.depth == 0 && self.rooted {
+        if self.opened.is_empty() && self.rooted {
             Ok(None)
         } else {
-            Err(XmlFault::Scan(ScanFault::End(self.input.len())))
+            Err(ScanFault::End(self.input.len()).into())
         }
     }
 }

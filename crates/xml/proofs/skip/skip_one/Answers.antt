@@ -32,7 +32,7 @@ pub returns-else-is_white : goal.returns-else-is_white
 returns-else-is_white c =
     elim c.if-inside.branch [
       | then-inside w ↦ absurd (let z : ◌≡◌ {A = ℕ} 0 1 = cc in omega arith)
-      | else-inside w ↦ text_no _ _ _ (begins c.args.input.now c.rest.result.now c.args.at Text c.in-Text.ensures c.rest.ensures) w.if-inside.false (cc)
+      | else-inside w ↦ rw c.into.ensures (text_no _ _ _ (begins c.args.input.now c.rest.result.now c.args.at Text c.in-Text.ensures c.rest.ensures) w.if-inside.false (cc))
     ]
 
 pub returns-in_ok-comment_end-in-Comment : goal.returns-in_ok-comment_end-in-Comment
@@ -57,10 +57,10 @@ pub returns-in-Declaration : goal.returns-in-Declaration
 returns-in-Declaration c = declaration_no _ _ _ (begins c.args.input.now c.rest.result.now c.args.at Declaration c.in-Declaration.ensures c.rest.ensures)
 
 pub returns-in-Cut : goal.returns-in-Cut
-returns-in-Cut c = cut_no _ _ _ (begins c.args.input.now c.rest.result.now c.args.at Cut c.in-Cut.ensures c.rest.ensures)
+returns-in-Cut c = rw c.into-in-Cut.ensures (cut_no _ _ _ (begins c.args.input.now c.rest.result.now c.args.at Cut c.in-Cut.ensures c.rest.ensures))
 
 pub returns-in-Stray : goal.returns-in-Stray
-returns-in-Stray c = stray_no _ _ _ (begins c.args.input.now c.rest.result.now c.args.at Stray c.in-Stray.ensures c.rest.ensures)
+returns-in-Stray c = rw c.into-in-Stray.ensures (stray_no _ _ _ (begins c.args.input.now c.rest.result.now c.args.at Stray c.in-Stray.ensures c.rest.ensures))
 
 pub returns-in-Nothing : goal.returns-in-Nothing
 returns-in-Nothing c = begins c.args.input.now c.rest.result.now c.args.at Nothing c.in-Nothing.ensures c.rest.ensures
