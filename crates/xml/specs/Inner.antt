@@ -1,16 +1,15 @@
 -- What the private functions say.
-use Rattle.std.specs.Prelude.{◌≡◌, ℕ, ◌+◌, ◌-◌, ◌<◌, ◌≤◌, Bool, true, false, List, [], ◌∷◌, length, drop, Some, None, Option, Result, ◌==◌, ◌≢◌}
+use Rattle.std.specs.Prelude.{◌≡◌, ℕ, ◌+◌, ◌-◌, ◌<◌, ◌≤◌, Bool, true, false, List, [], ◌∷◌, ◌++◌, map, length, drop, Some, None, Option, ◌==◌, ◌≢◌}
 use Rattle.labels.specs.Spelling.{byte, part, Spelled}
 use Rattle.labels.specs.declared.name.Name.{Name}
 use Rattle.sources.specs.declared.event.Event.{Event}
-use Rattle.sources.specs.declared.event.Event.TheVariants.{Open}
-use Rattle.sources.specs.Events.{answer, rest, ClosedFrom}
+use Rattle.sources.specs.declared.event.Event.TheVariants.{Open, Close}
 use Rattle.xml.specs.Faults.{scan_number, scan_place, number, place}
 use Rattle.xml.specs.Markup.{markup, TagEnds}
-use Rattle.xml.specs.Reading.{FindsAt, Room}
-use Rattle.xml.specs.Reading.Found.{skips, closes, refuses}
+use Rattle.xml.specs.Reading.{Finds, FindsAt}
+use Rattle.xml.specs.Reading.Found.{skips, refuses}
 use Rattle.xml.specs.Total.{reading}
-use Rattle.xml.specs.Means.{xml_names, xml_events, xml_ending, begun_by}
+use Rattle.xml.specs.Means.{labelled, tags_names, tags_meaning}
 use Rattle.xml.specs.declared.fault.Markup.{Markup}
 use Rattle.xml.specs.declared.fault.Markup.TheVariants.{Nothing, StartTag, EndTag}
 use Rattle.xml.specs.declared.fault.ScanFault.{ScanFault}
@@ -18,7 +17,9 @@ use Rattle.xml.specs.declared.fault.ScanFault.TheVariants.{Byte, End, LongName}
 use Rattle.xml.specs.declared.fault.Stop.{Stop}
 use Rattle.xml.specs.declared.fault.Stop.TheVariants.{StartTag as start_tag, EndTag as end_tag, End as at_end}
 use Rattle.xml.specs.declared.fault.XmlFault.{XmlFault}
-use Rattle.xml.specs.declared.reader.Xml.{Xml}
+use Rattle.xml.specs.declared.tags.Tag.{Tag}
+use Rattle.xml.specs.declared.tags.Tag.TheVariants.{Open as opens, Empty as empties, Close as closes}
+use Rattle.xml.specs.declared.reader.Tags.{Tags}
 use Rattle.xml.specs.declared.scan.Opening.{Opening}
 use Rattle.std.specs.declared.ops.ControlFlow.{ControlFlow}
 use Rattle.std.specs.declared.ops.ControlFlow.TheVariants.{Continue, Break}
@@ -72,33 +73,50 @@ abbrev pub Steps : List ℕ → Bool → ℕ → ControlFlow Stop ℕ → Type 0
 Steps xs inside p (Continue q) = GoesBy xs inside p q × (p < q) × (q ≤ length xs)
 Steps xs inside p (Break s) = stop_markup s ≡ markup (drop p xs)
 
--- Of the reader: it hands out the first event and keeps the others, or answers the ending
-pub record Hands (s t : Xml) (r : Result (Option (Event Name)) XmlFault) : Type 0 where
-  pub first : r ≡ answer (xml_events s) (xml_ending s)
-  pub others : xml_events t ≡ rest (xml_events s)
-  pub ending : xml_ending t ≡ xml_ending s
-  pub nested : xml_ending s ≡ None → ClosedFrom 0 (xml_events s)
-  pub begun : t.rooted ≡ begun_by s.rooted r
+-- Of the reading tag by tag: the events to come, and the ending
+abbrev pub tags_events : Tags → List (Event Name)
+tags_events s = map labelled (tags_meaning s).events
+
+abbrev pub tags_ending : Tags → Option XmlFault
+tags_ending s = (tags_meaning s).ending
+
+-- the events of a tag
+abbrev pub handed : Option Tag → List (Event Name)
+handed None = []
+handed (Some (opens l)) = Open l ∷ []
+handed (Some (empties l)) = Open l ∷ Close ∷ []
+handed (Some closes) = Close ∷ []
+
+-- whether a tag is behind the reader then
+abbrev pub passed : Bool → Option Tag → Bool
+passed before None = before
+passed before (Some t) = true
+
+-- no element may begin at the place
+abbrev pub NoRoom : Tags → XmlFault → Type 0
+NoRoom s f = Finds s.input.now s.place (tags_names s) s.rooted StartTag (refuses (number f) (place f))
+
+-- the tag's events are the first, and the others are kept
+pub record Gives (s t : Tags) (r : Option Tag) : Type 0 where
+  pub events : tags_events s ≡ handed r ++ tags_events t
+  pub ending : tags_ending t ≡ tags_ending s
+  pub done : r ≡ None → (tags_events s ≡ []) × (tags_ending s ≡ None)
+  pub rooted : t.rooted ≡ passed s.rooted r
+
+-- no event is left, and the fault is the ending
+pub record Refuses (s t : Tags) (f : XmlFault) : Type 0 where
+  pub none : tags_events s ≡ []
+  pub ends : tags_ending s ≡ Some f
+  pub left : tags_events t ≡ []
+  pub ending : tags_ending t ≡ tags_ending s
+  pub rooted : t.rooted ≡ s.rooted
 
 -- it stops, and the same events are to come
-pub record Comes (s t : Xml) (k : Stop) : Type 0 where
-  pub events : xml_events t ≡ xml_events s
-  pub ending : xml_ending t ≡ xml_ending s
-  pub nested : xml_ending s ≡ None → ClosedFrom 0 (xml_events s)
+pub record Comes (s t : Tags) (k : Stop) : Type 0 where
+  pub events : tags_events s ≡ tags_events t
+  pub ending : tags_ending t ≡ tags_ending s
   pub rooted : t.rooted ≡ s.rooted
-  pub still : t.closing ≡ false
   pub markup : markup (drop t.place t.input.now) ≡ stop_markup k
-
--- a start tag at its place may open an element
-pub record Opens (s : Xml) (t : Opening) : Type 0 where
-  pub begins : markup (drop s.place s.input.now) ≡ StartTag
-  pub room : Room (xml_names s) s.rooted
-  pub tag : Tagged s.input.now (s.place + 1) t
-
--- an end tag at its place, which ends at q, closes the innermost element
-pub record Closes (s : Xml) (q : ℕ) : Type 0 where
-  pub found : FindsAt s.input.now s.place (xml_names s) s.rooted (closes q)
-  pub within : q ≤ length s.input.now
 
 -- Of a look ahead: the root's name is a part of the input
 pub record RootNamed (xs : List ℕ) (p : ℕ) (w : List ℕ) : Type 0 where

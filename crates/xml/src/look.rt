@@ -1,10 +1,10 @@
 // Looking ahead at the root's name.
 ghost use Rattle.std.specs.Prelude.{◌≡◌, ◌≤◌, false, length, MatchResult};
-ghost use Rattle.xml.specs.Means.{Looks, Fails, NoLook, Unmoved};
+ghost use Rattle.xml.specs.Means.{Looks, NoLook, Kept, Unmoved};
 ghost use Rattle.xml.specs.Inner.{RootNamed, RootFails};
 
 use crate::fault::{LookFault, ScanFault, Stop, XmlFault};
-use crate::reader::Xml;
+use crate::reader::{Tags, Xml};
 use crate::scan::{name_end, start_tag};
 use crate::skip::skip;
 
@@ -39,12 +39,11 @@ fn root_name<'a>(input: &'a [u8], place: &mut usize) -> Result<&'a [u8], XmlFaul
     }
 }
 
-impl<'a> Xml<'a> {
+impl<'a> Tags<'a> {
     // The root's name, with the place put back.
     fn root(&mut self) -> Result<&'a [u8], XmlFault>
-        requires { self.old.rooted ≡ false }
-        ensures answer { MatchResult result (λ w. Looks self.old w.now) (Fails self.old) }
-        ensures unmoved { Unmoved self.old self.new }
+        ensures answer { MatchResult result (λ w. RootNamed self.old.input.now self.old.place w.now) (RootFails self.old.input.now self.old.place) }
+        ensures kept { Kept self.old self.new }
     {
         let input = self.input;
         let saved = self.place;
@@ -54,15 +53,17 @@ impl<'a> Xml<'a> {
         };
         root_name(input, guard.place)
     }
+}
 
+impl<'a> Xml<'a> {
     // The root's name, before the first event.
     pub fn look_ahead(&mut self) -> Result<&'a [u8], LookFault>
         ensures answer { MatchResult result (λ w. Looks self.old w.now) (NoLook self.old) }
         ensures unmoved { Unmoved self.old self.new }
     {
-        if self.rooted {
+        if self.tags.rooted {
             return Err(LookFault::Begun);
         }
-        Ok(self.root()?)
+        Ok(self.tags.root()?)
     }
 }

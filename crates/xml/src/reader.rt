@@ -7,18 +7,25 @@ use arrayvec::ArrayVec;
 // The elements that can be open at once.
 pub(crate) const LEVELS: usize = 128;
 
-// Reads in the caller's bytes, of which it keeps no copy.
+// Reads tag by tag in the caller's bytes, of which it keeps no copy.
 #[derive(Drop)]
-pub struct Xml<'a> {
+pub(crate) struct Tags<'a> {
     pub(crate) input: &'a [u8],
     pub(crate) place: usize,
     // the names of the open elements, the innermost last
     pub(crate) opened: ArrayVec<&'a [u8], LEVELS>,
     // the root's start tag is past
     pub(crate) rooted: bool,
-    // an empty element is still to be closed
-    pub(crate) closing: bool,
     ghost within: { place ≤ length input.now },
     ghost few: { length opened.items ≤ levels },
-    ghost fresh: { rooted ≡ false → (opened.items ≡ []) × (closing ≡ false) },
+    ghost fresh: { rooted ≡ false → opened.items ≡ [] },
+}
+
+// The reader: it reads tag by tag, and hands out two events for the tag of an empty element.
+#[derive(Drop)]
+pub struct Xml<'a> {
+    pub(crate) tags: Tags<'a>,
+    // an empty element is still to be closed
+    pub(crate) closing: bool,
+    ghost fresh: { tags.rooted ≡ false → closing ≡ false },
 }

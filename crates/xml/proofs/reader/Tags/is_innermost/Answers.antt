@@ -1,6 +1,6 @@
 use Rattle.std.proofs.Common.{◌≡◌, ◌-◌, length, slice_get, Some, subst}
 use Rattle.xml.proofs.Steps.{last_innermost}
-use Rattle.xml.proofs.reader.Xml.is_innermost.Goals as goal
+use Rattle.xml.proofs.reader.Tags.is_innermost.Goals as goal
 
 pub returns-in-Some : goal.returns-in-Some
 returns-in-Some c =
