@@ -23,7 +23,7 @@ use Rattle.std.proofs.lemmas.Slice.Eq.{slice_eq-Decides}
 use Rattle.std.proofs.lemmas.Bool.Decides.{Decides-eqb}
 use Rattle.std.specs.Str.{bytes_eq}
 use Rattle.std.proofs.lemmas.Bool.{cases_Bool, both_ways, ne_eqb}
-use Rattle.xml.specs.Means.{labelled, pending, open_names, tags_names, tags_meaning, xml_events, xml_ending, xml_bytes, Looks, Fails}
+use Rattle.xml.specs.Means.{labelled, pending, open_names, tags_names, tags_meaning, xml_events, xml_ending}
 use Rattle.xml.specs.Inner.{some, Tagged, Passes, tags_events, tags_ending, handed, Gives, Refuses, RootNamed, RootFails}
 use Rattle.xml.specs.Inner.Passes.{here, on}
 use Rattle.labels.specs.declared.name.Name.{Name}
@@ -189,24 +189,5 @@ root_named xs p q n r true w c d g =
 pub root_room : Room [] false
 root_room = record { alone = λ _. refl; few = omega arith }
 
--- before the root a reader means what the bytes mean with nothing open
-early_bytes : (s : Xml) → s.tags.rooted ≡ false →
-    (xml_bytes s ≡ (reading s.tags.input.now s.tags.place [] false).events) × (xml_ending s ≡ (reading s.tags.input.now s.tags.place [] false).ending)
-early_bytes s e =
-    let n = ap open_names (s.tags.fresh e) in
-    let c = s.fresh e in
-    let xs = s.tags.input.now in
-    let p = s.tags.place in
-    ((λ i. pending (c i) (reading xs p (n i) (e i)).events), (λ i. (reading xs p (n i) (e i)).ending))
-
-pub begun_closing : (s : Xml) → s.closing ≡ true → s.tags.rooted ≡ true
-begun_closing s e = elim (cases_Bool s.tags.rooted) [ inl r ↦ r | inr r ↦ absurd (both_ways _ (s.fresh r) e) ]
-
 pub begun_open : (s : Tags) → 0 < length (tags_names s) → s.rooted ≡ true
 begun_open s d = elim (cases_Bool s.rooted) [ inl r ↦ r | inr r ↦ let z : length (tags_names s) ≡ 0 = ap (λ ns. length (open_names ns)) (s.fresh r) in absurd (omega arith) ]
-
-pub looks : (s : Xml) (w : List ℕ) → s.tags.rooted ≡ false → RootNamed s.tags.input.now s.tags.place w → Looks s w
-looks s w e r = record { early = e; others = r.others; first = (early_bytes s e).0 ∙ r.first; from = r.from; to = r.to; cut = r.cut }
-
-pub fails : (s : Xml) (f : XmlFault) → s.tags.rooted ≡ false → RootFails s.tags.input.now s.tags.place f → Fails s f
-fails s f e r = let h = early_bytes s e in record { early = e; none = h.0 ∙ r.none; ends = h.1 ∙ r.ends }

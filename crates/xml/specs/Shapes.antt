@@ -1,22 +1,13 @@
 -- What the bytes from a place on are, by the place.
-use Rattle.std.specs.Prelude.{◌≡◌, ℕ, suc, ◌+◌, ◌-◌, ◌<◌, ◌≤◌, Bool, true, false, cond, ◌||◌, ◌⊎◌, List, [], ◌∷◌, length, take, drop, ◌==◌, ◌≢◌, slice_index, refl}
+use Rattle.std.specs.Prelude.{◌≡◌, ℕ, suc, ◌+◌, ◌-◌, ◌<◌, ◌≤◌, Bool, true, false, cond, ◌||◌, ◌⊎◌, List, [], ◌∷◌, length, drop, ◌==◌, ◌≢◌, slice_index, refl}
 use Rattle.std.proofs.Common.{sym, ◌∙◌, ap, subst, inl, inr, add-zero, arith, length-drop}
-use Rattle.std.proofs.lemmas.List.{take_rest, get_or-drop}
+use Rattle.std.proofs.lemmas.List.{get_or-drop}
 use Rattle.std.proofs.lemmas.Bool.{cases_lt, and_parts, not-false, eqb-true, or_cases}
 use Rattle.labels.specs.Spelling.{byte, white, starts, Longest}
 use Rattle.xml.specs.Bytes.{plain, apart}
 use Rattle.xml.specs.Markup.{markup, behind, two_dashes, TagEnds}
 use Rattle.xml.specs.declared.fault.Markup.{Markup}
 use Rattle.xml.specs.declared.fault.Markup.TheVariants.{Nothing, Text, EndTag, Comment, Declaration, Instruction, StartTag, Cut, Stray}
-
-pub rest_byte : (xs : List ℕ) (d k : ℕ) → slice_index (take (length xs - d) (drop d xs)) k ≡ byte xs (d + k)
-rest_byte xs d k = ap (λ l. slice_index l k) (take_rest xs d) ∙ get_or-drop d xs k 0
-
-pub rest_first : (xs : List ℕ) (d : ℕ) → slice_index (take (length xs - d) (drop d xs)) 0 ≡ byte xs d
-rest_first xs d = rest_byte xs d 0 ∙ ap (byte xs) (add-zero d)
-
-pub rest_length : (xs : List ℕ) (d : ℕ) → length (take (length xs - d) (drop d xs)) ≡ length xs - d
-rest_length xs d = ap length (take_rest xs d) ∙ length-drop d xs
 
 -- the bytes from a place on, by the place
 pub record From (xs : List ℕ) (d : ℕ) (bs : List ℕ) : Type 0 where

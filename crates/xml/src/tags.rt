@@ -27,10 +27,7 @@ fn label(bytes: &[u8]) -> Name
     requires { length bytes.now ≤ name_limit }
     ensures { result ≡ name_of bytes.now }
 {
-    match Name::from_bytes(bytes) {
-        Ok(name) => name,
-        Err(_) => unreachable(),
-    }
+    Name::from_bytes(bytes).unwrap()
 }
 
 impl<'a> Tags<'a> {
