@@ -1,5 +1,6 @@
 -- What the scans of tags find, as the meaning has it.
-use Rattle.std.proofs.Common.{◌≡◌, ℕ, ◌+◌, true, ◌||◌, eqb, List, length, MatchResult, Result, sym, subst, arith}
+use Rattle.std.specs.Option.{MatchOption, unwrap_or}
+use Rattle.std.proofs.Common.{◌≡◌, ℕ, ◌+◌, ◌<◌, ◌≤◌, Bool, true, false, ◌||◌, eqb, List, length, Some, None, MatchResult, Option, Result, sym, subst, arith}
 use Rattle.std.proofs.lemmas.Result.{MatchResult-weaker}
 use Rattle.labels.specs.Spelling.{byte, white, Longest}
 use Rattle.xml.specs.Bytes.{plain}
@@ -11,6 +12,13 @@ use Rattle.xml.specs.Shapes.{slash_tag, bracket_tag, no_close}
 use Rattle.xml.specs.declared.fault.ScanFault.{ScanFault}
 use Rattle.xml.specs.declared.fault.ScanFault.TheVariants.{Byte, End, LongName}
 use Rattle.xml.proofs.Once.{standing}
+
+-- where a search for the first place that fails the test ends
+pub first_runs : (ok : ℕ → Bool) (end p : ℕ) (r : Option ℕ) →
+    MatchOption r ((k : ℕ) → p ≤ k → k < end → ok k ≡ true) (λ i. (p ≤ i) × (i < end) × (ok i ≡ false) × ((k : ℕ) → p ≤ k → k < i → ok k ≡ true)) →
+    p ≤ end → Longest ok end p (unwrap_or r end)
+first_runs ok end p None h l = record { late = l; within = omega arith; all = h; stops = λ m. absurd (omega arith) }
+first_runs ok end p (Some i) h l = let w = h.1 in record { late = h.0; within = omega arith; all = h.3; stops = λ _. h.2 }
 
 -- a `>` that is looked for at one place alone
 abbrev pub Closes : List ℕ → ℕ → Result ℕ ScanFault → Type 0

@@ -1,4 +1,5 @@
-// Where names and tags end. Each scan starts at any place, also past the end of the input.
+// Where names and tags end. A scan starts at any place, also past the end of the input. It takes and answers bare places, since the
+// faults and the tags tell places: a cursor would be taken apart and made again at each step.
 ghost use Rattle.std.specs.Prelude.{◌≡◌, ◌≤◌, length, drop, MatchResult};
 ghost use Rattle.labels.specs.Spelling.{byte, Longest, Spelled};
 ghost use Rattle.xml.specs.Bytes.{plain};

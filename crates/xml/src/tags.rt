@@ -109,7 +109,7 @@ impl<'a> Tags<'a> {
         }
     }
 
-    // Goes through the next tag; with none left it answers None, or the fault.
+    // Goes through the next tag; what it asks of the place, each of the three has from `pass`. With none left it answers None, or the fault.
     pub(crate) fn next(&mut self) -> Result<Option<Tag>, XmlFault>
         ensures { MatchResult result (Gives self.old self.new) (Refuses self.old self.new) }
     {
