@@ -1,6 +1,5 @@
 -- What goes by between tags.
-use Rattle.std.proofs.Common.{◌≡◌, ℕ, ◌+◌, ◌-◌, Bool, true, false, ◌⊎◌, List, [], ◌∷◌, length, take, drop, sym, refl, ap, ◌∙◌, subst, inl, inr, arith}
-use Rattle.std.proofs.lemmas.List.{take_rest}
+use Rattle.std.proofs.Common.{◌≡◌, ℕ, ◌+◌, Bool, true, false, ◌⊎◌, List, [], ◌∷◌, length, drop, sym, refl, ap, ◌∙◌, subst, inl, inr, arith}
 use Rattle.std.proofs.lemmas.Bool.{both_ways}
 use Rattle.labels.specs.Spelling.{byte, white}
 use Rattle.xml.specs.Faults.{scan_number, scan_place}
@@ -19,8 +18,8 @@ pub found : (xs : List ℕ) (p : ℕ) (names : List (List ℕ)) (rooted : Bool) 
 found xs p names rooted k s e d = subst (λ j. Finds xs p names rooted j s) e d
 
 -- what the slice from a place on begins with
-pub begins : (xs : List ℕ) (p : ℕ) (k : Markup) → k ≡ markup (take (length xs - p) (drop p xs)) → k ≡ markup (drop p xs)
-begins xs p k e = e ∙ ap markup (take_rest xs p)
+pub begins : (xs bs : List ℕ) (p : ℕ) (k : Markup) → k ≡ markup bs → bs ≡ drop p xs → k ≡ markup (drop p xs)
+begins xs bs p k e f = e ∙ ap markup f
 
 -- what is found where the reader stops
 pub found_at : (xs : List ℕ) (p : ℕ) (names : List (List ℕ)) (rooted : Bool) (j k : Stop) (s : Found) → j ≡ k → stop_markup j ≡ markup (drop p xs) → Finds xs p names rooted (stop_markup k) s → FindsAt xs p names rooted s

@@ -1,30 +1,66 @@
 -- What the scans of tags find, as the meaning has it.
-use Rattle.std.proofs.Common.{◌≡◌, ℕ, true, ◌||◌, eqb, List, length, sym, subst, arith}
+use Rattle.std.specs.Option.{MatchOption, unwrap_or}
+use Rattle.std.proofs.Common.{◌≡◌, ℕ, ◌+◌, ◌<◌, ◌≤◌, Bool, true, false, ◌||◌, eqb, List, length, Some, None, MatchResult, Option, Result, sym, subst, arith}
+use Rattle.std.proofs.lemmas.Result.{MatchResult-weaker}
 use Rattle.labels.specs.Spelling.{byte, white, Longest}
 use Rattle.xml.specs.Bytes.{plain}
-use Rattle.xml.specs.Markup.{TagEnds, TagFault, EndFault}
-use Rattle.xml.specs.Markup.TagFault.{unclosed, opened}
+use Rattle.xml.specs.Markup.{TagEnds, EndEnds, TagFault, EndFault}
+use Rattle.xml.specs.Markup.TagFault.{slash_ended, slash_byte, unclosed, opened}
 use Rattle.xml.specs.Markup.EndFault.{ended, byte_behind}
-use Rattle.xml.specs.Inner.{Told, Bracketed, Unbracketed, Unclosed}
-use Rattle.xml.specs.Shapes.{bracket_tag}
+use Rattle.xml.specs.Inner.{Told, Unclosed}
+use Rattle.xml.specs.Shapes.{slash_tag, bracket_tag, no_close}
 use Rattle.xml.specs.declared.fault.ScanFault.{ScanFault}
 use Rattle.xml.specs.declared.fault.ScanFault.TheVariants.{Byte, End, LongName}
 use Rattle.xml.proofs.Once.{standing}
 
-module _ (xs : List ℕ) (n : ℕ) where
-  pub bracketed_tag : (white (byte xs n) || eqb (byte xs n) 62) ≡ true → (c : ℕ) → Bracketed xs n c → TagEnds xs n c
-  bracketed_tag h c d =
-      let e = d.closes in
-      bracket_tag xs n c h d.rest (standing xs c 62 d.closes (omega arith)) (λ f. omega arith)
+-- where a search for the first place that fails the test ends
+pub first_runs : (ok : ℕ → Bool) (end p : ℕ) (r : Option ℕ) →
+    MatchOption r ((k : ℕ) → p ≤ k → k < end → ok k ≡ true) (λ i. (p ≤ i) × (i < end) × (ok i ≡ false) × ((k : ℕ) → p ≤ k → k < i → ok k ≡ true)) →
+    p ≤ end → Longest ok end p (unwrap_or r end)
+first_runs ok end p None h l = record { late = l; within = omega arith; all = h; stops = λ m. absurd (omega arith) }
+first_runs ok end p (Some i) h l = let w = h.1 in record { late = h.0; within = omega arith; all = h.3; stops = λ _. h.2 }
 
-  pub unbracketed_tag : (white (byte xs n) || eqb (byte xs n) 62) ≡ true → (f : ScanFault) → Unbracketed xs n f → Told (TagFault xs n) f
-  unbracketed_tag h (Byte c) d = opened c h d.0 d.1
-  unbracketed_tag h (End c) d =
-      subst (TagFault xs n 31) (sym d.1) (unclosed h (subst (λ q. Longest (λ i. plain (byte xs i)) (length xs) n q) d.1 d.0))
-  unbracketed_tag h (LongName c) d = absurd d
+-- a `>` that is looked for at one place alone
+abbrev pub Closes : List ℕ → ℕ → Result ℕ ScanFault → Type 0
+Closes xs p r = MatchResult r (λ c. (c ≡ p) × (byte xs p ≡ 62)) (Unclosed xs p)
 
-  pub unclosed_tag : (f : ScanFault) → Unclosed xs n f → Told (EndFault xs n) f
-  unclosed_tag (Byte c) d = byte_behind c d.0 d.1 d.2
-  unclosed_tag (End c) d =
-      subst (EndFault xs n 31) (sym d.1) (ended (subst (λ q. Longest (λ i. white (byte xs i)) (length xs) n q) d.1 d.0))
-  unclosed_tag (LongName c) d = absurd d
+module _ (xs : List ℕ) (n : ℕ) (r : Result ℕ ScanFault) where
+  pub slash_closes : byte xs n ≡ 47 → Closes xs (n + 1) r → MatchResult r (TagEnds xs n) (Told (TagFault xs n))
+  slash_closes s h = MatchResult-weaker r h good bad
+    where
+      good : (c : ℕ) → (c ≡ n + 1) × (byte xs (n + 1) ≡ 62) → TagEnds xs n c
+      good c (e, b) = subst (TagEnds xs n) (sym e) (slash_tag xs n s (standing xs (n + 1) 62 b (omega arith)) b)
+
+      bad : (f : ScanFault) → Unclosed xs (n + 1) f → Told (TagFault xs n) f
+      bad (Byte c) (e, w, b) = subst (TagFault xs n 30) (sym e) (slash_byte s w b)
+      bad (End c) (w, e) = subst (TagFault xs n 31) (sym e) (slash_ended s w)
+      bad (LongName c) h = absurd h
+
+  pub bracket_closes : (white (byte xs n) || eqb (byte xs n) 62) ≡ true → (p : ℕ) → Longest (λ i. plain (byte xs i)) (length xs) n p →
+      Closes xs p r → MatchResult r (TagEnds xs n) (Told (TagFault xs n))
+  bracket_closes a p l h = MatchResult-weaker r h good bad
+    where
+      good : (c : ℕ) → (c ≡ p) × (byte xs p ≡ 62) → TagEnds xs n c
+      good c (e, b) = subst (TagEnds xs n) (sym e) (bracket_tag xs n p a l (standing xs p 62 b (omega arith)) (λ f. omega arith))
+
+      bad : (f : ScanFault) → Unclosed xs p f → Told (TagFault xs n) f
+      bad (Byte c) (e, w, b) = subst (TagFault xs n 30) (sym e) (opened p a l (no_close (byte xs p) (l.stops w) b))
+      bad (End c) (w, e) =
+          let within = l.within in
+          let g : p ≡ length xs = omega arith in
+          subst (TagFault xs n 31) (sym e) (unclosed a (subst (Longest (λ i. plain (byte xs i)) (length xs) n) g l))
+      bad (LongName c) h = absurd h
+
+  pub white_closes : (p : ℕ) → Longest (λ i. white (byte xs i)) (length xs) n p → Closes xs p r → MatchResult r (EndEnds xs n) (Told (EndFault xs n))
+  white_closes p l h = MatchResult-weaker r h good bad
+    where
+      good : (c : ℕ) → (c ≡ p) × (byte xs p ≡ 62) → EndEnds xs n c
+      good c (e, b) = subst (EndEnds xs n) (sym e) (record { space = l; closes = b })
+
+      bad : (f : ScanFault) → Unclosed xs p f → Told (EndFault xs n) f
+      bad (Byte c) (e, w, b) = subst (EndFault xs n 30) (sym e) (byte_behind p l w b)
+      bad (End c) (w, e) =
+          let within = l.within in
+          let g : p ≡ length xs = omega arith in
+          subst (EndFault xs n 31) (sym e) (ended (subst (Longest (λ i. white (byte xs i)) (length xs) n) g l))
+      bad (LongName c) h = absurd h

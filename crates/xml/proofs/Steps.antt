@@ -1,70 +1,69 @@
 -- How a reader's meaning goes on.
-use Rattle.std.proofs.Common.{◌≡◌, ℕ, zero, suc, ◌+◌, ◌-◌, ◌<◌, ◌≤◌, Bool, true, false, ltb, ◌≢◌, List, [], ◌∷◌, map, length, set, Some, None, Ok, Err, Decides, Option, Result, sym, refl, ap, ◌∙◌, subst, inl, inr, add-one, arith, get_or-set_other, get_or-set_same, lt-ltb}
+use Rattle.std.proofs.Common.{◌≡◌, ℕ, zero, suc, ◌+◌, ◌-◌, ◌<◌, ◌≤◌, Bool, true, false, not, eqb, List, [], ◌∷◌, ◌++◌, map, reverse, length, take, drop, slice_get, Some, None, Decides, IsSome, Option, Bor, sym, refl, ap, ◌∙◌, subst, inl, inr, arith, drop-cons}
+use Rattle.std.specs.Option.{option_to_list}
 use Rattle.sources.specs.declared.event.Event.{Event}
-use Rattle.sources.specs.declared.event.Event.TheVariants.{Open, Close}
-use Rattle.sources.specs.Events.{answer, rest, ClosedFrom}
-use Rattle.labels.specs.Spelling.{part}
+use Rattle.sources.specs.declared.event.Event.TheVariants.{Open as Opening, Close as Closing}
+use Rattle.sources.specs.Events.{rest, ClosedFrom}
+use Rattle.xml.specs.declared.tags.Tag.{Tag}
+use Rattle.xml.specs.declared.tags.Tag.TheVariants.{Open, Empty, Close}
+use Rattle.xml.specs.declared.reader.Tags.{Tags}
+use Rattle.labels.specs.Spelling.{part, Spelled}
 use Rattle.labels.specs.Names.{name_of}
 use Rattle.xml.specs.Faults.{number, place}
 use Rattle.xml.specs.Reading.{levels, Finds, FindsAt, Reads, Room, Innermost}
-use Rattle.xml.specs.Reading.Finds.{finish, end_tag}
+use Rattle.xml.specs.Reading.Finds.{finish, start, end_tag}
 use Rattle.xml.specs.declared.fault.Markup.{Markup}
 use Rattle.xml.specs.declared.reader.Xml.{Xml}
 use Rattle.xml.specs.Reading.Found.{finishes, opens, closes, refuses}
 use Rattle.xml.specs.Reading.Reads.{done, refused, skipped, opened, opened_empty, closed}
 use Rattle.xml.specs.Total.{reading}
-use Rattle.xml.specs.Spans.{no_span, span, spanned, LastIs, open_names}
-use Rattle.xml.specs.declared.reader.Span.{Span}
-use Rattle.std.proofs.lemmas.Bool.{cases_Bool, both_ways}
-use Rattle.xml.specs.Means.{labelled, pending, begun_by, xml_names, xml_events, xml_ending, xml_meaning, xml_bytes, Looks, Fails}
-use Rattle.xml.specs.Inner.{some, Passes, Hands, RootNamed, RootFails}
+use Rattle.std.proofs.lemmas.List.{length-reverse, length-map, map-append, reverse-append, take-append-drop, drop_all}
+use Rattle.std.proofs.lemmas.Option.{slice_get_within, get_or_from_slice_get}
+use Rattle.std.proofs.lemmas.Slice.Eq.{slice_eq-Decides}
+use Rattle.std.proofs.lemmas.Bool.Decides.{Decides-eqb}
+use Rattle.std.specs.Str.{bytes_eq}
+use Rattle.std.proofs.lemmas.Bool.{cases_Bool, both_ways, ne_eqb}
+use Rattle.xml.specs.Means.{labelled, pending, open_names, tags_names, tags_meaning, xml_events, xml_ending}
+use Rattle.xml.specs.Inner.{some, Tagged, Passes, tags_events, tags_ending, handed, Gives, Refuses, RootNamed, RootFails}
 use Rattle.xml.specs.Inner.Passes.{here, on}
 use Rattle.labels.specs.declared.name.Name.{Name}
 use Rattle.xml.specs.declared.fault.XmlFault.{XmlFault}
+use Rattle.xml.specs.declared.scan.Opening.{Opening as Start}
+use Rattle.xml.specs.declared.fault.Markup.TheVariants.{StartTag, EndTag}
+use Rattle.xml.specs.Markup.{markup, EndEnds}
 use Rattle.xml.proofs.Once.{once}
+use Rattle.xml.proofs.Between.{found}
 
--- what is handed out between two meanings
-pub record Gives (es : List (Event (List ℕ))) (end : Option XmlFault) (ds : List (Event (List ℕ))) (to : Option XmlFault) (r : Result (Option (Event Name)) XmlFault) : Type 0 where
-  pub first : r ≡ answer (map labelled es) end
-  pub others : map labelled ds ≡ rest (map labelled es)
+-- what a tag leaves of a meaning
+pub record Moves (es : List (Event (List ℕ))) (end : Option XmlFault) (ds : List (Event (List ℕ))) (to : Option XmlFault) (t : Tag) : Type 0 where
+  pub events : map labelled es ≡ handed (Some t) ++ map labelled ds
   pub ending : to ≡ end
-
-gives_none : (end : Option XmlFault) (r : Result (Option (Event Name)) XmlFault) → r ≡ answer [] end → Gives [] end [] end r
-gives_none end r e = record { first = e; others = refl; ending = refl }
 
 module _ (xs : List ℕ) (p : ℕ) (names : List (List ℕ)) (rooted : Bool) where
   pub means : (es : List (Event (List ℕ))) (end : Option XmlFault) → Reads xs p names rooted es end → ((reading xs p names rooted).events ≡ es) × ((reading xs p names rooted).ending ≡ end)
   means es end d = let m = reading xs p names rooted in once xs p names rooted m.events m.ending m.reads es end d
 
-  pub refuses_gives : (f : XmlFault) → FindsAt xs p names rooted (refuses (number f) (place f)) →
-      Gives (reading xs p names rooted).events (reading xs p names rooted).ending (reading xs p names rooted).events (reading xs p names rooted).ending (Err f)
-  refuses_gives f d = let m = means [] (Some f) (refused f d) in rw (m.0, m.1) (gives_none (Some f) (Err f) refl)
-
-  pub done_gives : FindsAt xs p names rooted finishes →
-      Gives (reading xs p names rooted).events (reading xs p names rooted).ending (reading xs p names rooted).events (reading xs p names rooted).ending (Ok None)
-  done_gives d = let m = means [] None (done d) in rw (m.0, m.1) (gives_none None (Ok None) refl)
-
-  pub opens_gives : (n q : ℕ) (ns : List (List ℕ)) (l : Name) → ns ≡ part xs (p + 1) n ∷ names → l ≡ name_of (part xs (p + 1) n) → FindsAt xs p names rooted (opens n q false) →
-      Gives (reading xs p names rooted).events (reading xs p names rooted).ending (reading xs q ns true).events (reading xs q ns true).ending (Ok (Some (Open l)))
-  opens_gives n q ns l e f d =
+  pub opens_moves : (n q : ℕ) (ns : List (List ℕ)) (l : Name) → ns ≡ part xs (p + 1) n ∷ names → l ≡ name_of (part xs (p + 1) n) → FindsAt xs p names rooted (opens n q false) →
+      Moves (reading xs p names rooted).events (reading xs p names rooted).ending (reading xs q ns true).events (reading xs q ns true).ending (Open l)
+  opens_moves n q ns l e f d =
       let t = reading xs q ns true in
-      let m = means (Open (part xs (p + 1) n) ∷ t.events) t.ending (opened d (subst (λ k. Reads xs q k true t.events t.ending) e t.reads)) in
-      record { first = rw (m.0, f); others = rw m.0; ending = sym m.1 }
+      let m = means (Opening (part xs (p + 1) n) ∷ t.events) t.ending (opened d (subst (λ k. Reads xs q k true t.events t.ending) e t.reads)) in
+      record { events = rw (m.0, f); ending = sym m.1 }
 
-  pub empty_gives : (n q : ℕ) (l : Name) → l ≡ name_of (part xs (p + 1) n) → FindsAt xs p names rooted (opens n q true) →
-      Gives (reading xs p names rooted).events (reading xs p names rooted).ending (Close ∷ (reading xs q names true).events) (reading xs q names true).ending (Ok (Some (Open l)))
-  empty_gives n q l f d =
+  pub empty_moves : (n q : ℕ) (l : Name) → l ≡ name_of (part xs (p + 1) n) → FindsAt xs p names rooted (opens n q true) →
+      Moves (reading xs p names rooted).events (reading xs p names rooted).ending (reading xs q names true).events (reading xs q names true).ending (Empty l)
+  empty_moves n q l f d =
       let t = reading xs q names true in
-      let m = means (Open (part xs (p + 1) n) ∷ Close ∷ t.events) t.ending (opened_empty d t.reads) in
-      record { first = rw (m.0, f); others = rw m.0; ending = sym m.1 }
+      let m = means (Opening (part xs (p + 1) n) ∷ Closing ∷ t.events) t.ending (opened_empty d t.reads) in
+      record { events = rw (m.0, f); ending = sym m.1 }
 
-  pub closes_gives : (q : ℕ) (w : List ℕ) (ns : List (List ℕ)) → names ≡ w ∷ ns → FindsAt xs p names rooted (closes q) →
-      Gives (reading xs p names rooted).events (reading xs p names rooted).ending (reading xs q ns rooted).events (reading xs q ns rooted).ending (Ok (Some Close))
-  closes_gives q w ns e d =
+  pub closes_moves : (q : ℕ) (w : List ℕ) (ns : List (List ℕ)) → names ≡ w ∷ ns → FindsAt xs p names rooted (closes q) →
+      Moves (reading xs p names rooted).events (reading xs p names rooted).ending (reading xs q ns rooted).events (reading xs q ns rooted).ending Close
+  closes_moves q w ns e d =
       let t = reading xs q ns rooted in
-      let c : Reads xs p (w ∷ ns) rooted (Close ∷ t.events) t.ending = closed (subst (λ k. FindsAt xs p k rooted (closes q)) e d) t.reads in
-      let m = means (Close ∷ t.events) t.ending (subst (λ k. Reads xs p k rooted (Close ∷ t.events) t.ending) (sym e) c) in
-      record { first = rw m.0; others = rw m.0; ending = sym m.1 }
+      let c : Reads xs p (w ∷ ns) rooted (Closing ∷ t.events) t.ending = closed (subst (λ k. FindsAt xs p k rooted (closes q)) e d) t.reads in
+      let m = means (Closing ∷ t.events) t.ending (subst (λ k. Reads xs p k rooted (Closing ∷ t.events) t.ending) (sym e) c) in
+      record { events = rw m.0; ending = sym m.1 }
 
 passed : (xs : List ℕ) (inside : Bool) (p q : ℕ) (names : List (List ℕ)) (rooted : Bool) (es : List (Event (List ℕ))) (end : Option XmlFault) →
     Passes xs inside p q → some names ≡ inside → Reads xs q names rooted es end → Reads xs p names rooted es end
@@ -78,34 +77,32 @@ passes_same xs inside p q names rooted d i =
     let t = reading xs q names rooted in
     means xs p names rooted t.events t.ending (passed xs inside p q names rooted t.events t.ending d i t.reads)
 
-pub none_open : (xs : List ℕ) (spans : List Span) (d : ℕ) → d ≡ 0 → open_names xs spans d ≡ []
-none_open xs spans zero h = refl
-none_open xs spans (suc d) h = absurd (omega arith)
+pub none_open : (names : List (Bor (List ℕ))) → length names ≡ 0 → open_names names ≡ []
+none_open [] h = refl
+none_open (n ∷ ns) h = absurd (omega arith)
 
-pub length_names : (xs : List ℕ) (spans : List Span) (d : ℕ) → length (open_names xs spans d) ≡ d
-length_names xs spans zero = refl
-length_names xs spans (suc d) = ap suc (length_names xs spans d)
+pub length_names : (names : List (Bor (List ℕ))) → length (open_names names) ≡ length names
+length_names names = length-reverse (map (λ n. n.now) names) ∙ length-map names (λ n. n.now)
 
-pub pop_names : (xs : List ℕ) (spans : List Span) (d : ℕ) → 0 < d → open_names xs spans d ≡ spanned xs (span spans (d - 1)) ∷ open_names xs spans (d - 1)
-pop_names xs spans zero h = absurd (omega arith)
-pop_names xs spans (suc d) h = let e : d ≡ suc d - 1 = omega arith in rw (← e)
+pub push_names : (names : List (Bor (List ℕ))) (n : Bor (List ℕ)) → open_names (names ++ n ∷ []) ≡ n.now ∷ open_names names
+push_names names n = ap reverse (map-append (λ m. m.now) names (n ∷ [])) ∙ reverse-append (map (λ m. m.now) names) (n.now ∷ [])
 
-kept_names : (xs : List ℕ) (spans : List Span) (i d : ℕ) (s : Span) → d ≤ i → open_names xs (set spans i s) d ≡ open_names xs spans d
-kept_names xs spans i zero s h = refl
-kept_names xs spans i (suc d) s h =
-    let ne : d ≢ i = omega arith in
-    let a = get_or-set_other spans i d s no_span ne in
-    let c = kept_names xs spans i d s (omega arith) in
-    λ k. spanned xs (a k) ∷ c k
+-- what a pop leaves
+pub pop_names : (names rest : List (Bor (List ℕ))) (r : Option (Bor (List ℕ))) → names ≡ rest ++ option_to_list r → IsSome r → (w : List ℕ) × (open_names names ≡ w ∷ open_names rest)
+pop_names names rest None e h = absurd (both_ways false refl h)
+pop_names names rest (Some n) e h = (n.now, ap open_names e ∙ push_names rest n)
 
-pub push_names : (xs : List ℕ) (spans : List Span) (d p n : ℕ) → d < length spans → p ≤ n →
-    open_names xs (set spans d (record { start = p; len = n - p })) (d + 1) ≡ part xs p n ∷ open_names xs spans d
-push_names xs spans d p n h l =
-    let s : Span = record { start = p; len = n - p } in
-    let a = get_or-set_same spans d s no_span h in
-    let c = kept_names xs spans d d s (omega arith) in
-    let e : p + (n - p) ≡ n = omega arith in
-    ap (open_names xs (set spans d s)) (add-one d) ∙ (λ k. spanned xs (a k) ∷ c k) ∙ ap (λ m. part xs p m ∷ open_names xs spans d) e
+-- the last name is the innermost
+pub last_innermost : (names : List (Bor (List ℕ))) (n : Bor (List ℕ)) (w : List ℕ) (b : Bool) → Some n ≡ slice_get names (length names - 1) → b ≡ bytes_eq n.now w →
+    Decides b (Innermost (open_names names) w)
+last_innermost names n w b e f =
+    let i = length names - 1 in
+    let h : i < length names = slice_get_within names i n (sym e) in
+    let behind : drop (suc i) names ≡ [] = drop_all (suc i) names (omega arith) in
+    let split : names ≡ take i names ++ n ∷ [] =
+    sym (take-append-drop i names) ∙ ap (λ t. take i names ++ t) (drop-cons names i n h ∙ (λ k. get_or_from_slice_get names i n n (sym e) k ∷ behind k)) in
+    let d = slice_eq-Decides Decides-eqb n.now w b f in
+    subst (λ ns. Decides b (Innermost ns w)) (sym (ap open_names split ∙ push_names (take i names) n)) (λ t. sym (d.0 t), λ q. d.1 (sym q))
 
 finish_empty : (xs : List ℕ) (p : ℕ) (names : List (List ℕ)) (rooted : Bool) (k : Markup) → Finds xs p names rooted k finishes → names ≡ []
 finish_empty xs p names rooted k (finish a b) = a
@@ -128,78 +125,48 @@ all_closed xs p names rooted es end (closed {q = q} {names = ns} {es = ds} f d) 
 all_closed xs p names rooted es end (closed {q = q} {names = ns} {es = ds} f d) e (suc k) h = all_closed xs q ns rooted ds end d e k (omega arith)
 
 pub nested : (s : Xml) → xml_ending s ≡ None → ClosedFrom 0 (xml_events s)
-nested s e = go s.closing (all_closed _ _ _ _ _ _ (xml_meaning s).reads e 0 (omega arith))
+nested s e = go s.closing (all_closed _ _ _ _ _ _ (tags_meaning s.tags).reads e 0 (omega arith))
   where
-    go : (b : Bool) → ClosedFrom 0 (map labelled (xml_meaning s).events) → ClosedFrom 0 (map labelled (pending b (xml_meaning s).events))
+    go : (b : Bool) → ClosedFrom 0 (tags_events s.tags) → ClosedFrom 0 (map labelled (pending b (tags_meaning s.tags).events))
     go true h = h
     go false h = h
 
-gives_pending : (b b' : Bool) (es ds : List (Event (List ℕ))) (end to : Option XmlFault) (r : Result (Option (Event Name)) XmlFault) → b ≡ false → b' ≡ false →
-    Gives es end ds to r → Gives (pending b es) end (pending b' ds) to r
-gives_pending false false es ds end to r e f g = g
-gives_pending false true es ds end to r e f g = let z : ◌≡◌ {A = ℕ} 0 1 = cc in absurd (omega arith)
-gives_pending true b' es ds end to r e f g = let z : ◌≡◌ {A = ℕ} 0 1 = cc in absurd (omega arith)
+-- two readers whose meanings are known
+pub moves_give : (s t : Tags) (x : Tag) → t.rooted ≡ true → Moves (tags_meaning s).events (tags_ending s) (tags_meaning t).events (tags_ending t) x → Gives s t (Some x)
+moves_give s t x b m = record { events = m.events; ending = m.ending; done = λ e. let z : ◌≡◌ {A = ℕ} 0 1 = cc in absurd (omega arith); rooted = b }
 
--- of two readers whose meanings are known
-pub handed : (s t : Xml) (r : Result (Option (Event Name)) XmlFault) → s.closing ≡ false → t.closing ≡ false → t.rooted ≡ begun_by s.rooted r →
-    Gives (xml_meaning s).events (xml_ending s) (xml_meaning t).events (xml_ending t) r → Hands s t r
-handed s t r e f b g = let h = gives_pending s.closing t.closing _ _ _ _ r e f g in record { first = h.first; others = h.others; ending = h.ending; nested = nested s; begun = b }
+pub done_gives : (s : Tags) → FindsAt s.input.now s.place (tags_names s) s.rooted finishes → Gives s s None
+done_gives s d = let m = means s.input.now s.place (tags_names s) s.rooted [] None (done d) in record { events = refl; ending = refl; done = λ _. (ap (map labelled) m.0, m.1); rooted = refl }
 
-pub refused_hands : (s : Xml) (f : XmlFault) → s.closing ≡ false → FindsAt s.input.now s.place (xml_names s) s.rooted (refuses (number f) (place f)) → Hands s s (Err f)
-refused_hands s f e d = handed s s (Err f) e e refl (refuses_gives s.input.now s.place (xml_names s) s.rooted f d)
+pub fault_refuses : (s : Tags) (f : XmlFault) → FindsAt s.input.now s.place (tags_names s) s.rooted (refuses (number f) (place f)) → Refuses s s f
+fault_refuses s f d =
+    let m = means s.input.now s.place (tags_names s) s.rooted [] (Some f) (refused f d) in
+    let n = ap (map labelled) m.0 in
+    record { none = n; ends = m.1; left = n; ending = refl; rooted = refl }
 
-gives_empty : (b : Bool) (es ds : List (Event (List ℕ))) (end to : Option XmlFault) (r : Result (Option (Event Name)) XmlFault) → b ≡ false →
-    Gives es end (Close ∷ ds) to r → Gives (pending b es) end (Close ∷ ds) to r
-gives_empty false es ds end to r e g = g
-gives_empty true es ds end to r e g = let z : ◌≡◌ {A = ℕ} 0 1 = cc in absurd (omega arith)
+pub room : (names : List (Bor (List ℕ))) (rooted : Bool) → length names < levels → (length names ≡ 0 → rooted ≡ false) → Room (open_names names) rooted
+room names rooted h g =
+    let l = length_names names in
+    record { alone = λ e. let z : length (open_names names) ≡ 0 = ap length e in g (omega arith); few = omega arith }
 
-pub gives_close : (b : Bool) (es : List (Event (List ℕ))) (end : Option XmlFault) → b ≡ true → Gives (pending b es) end es end (Ok (Some Close))
-gives_close true es end e = record { first = refl; others = refl; ending = refl }
-gives_close false es end e = let z : ◌≡◌ {A = ℕ} 0 1 = cc in absurd (omega arith)
+-- a start tag that may open an element
+pub start_at : (xs : List ℕ) (p : ℕ) (names : List (List ℕ)) (rooted : Bool) (t : Start) (e : Bool) → markup (drop p xs) ≡ StartTag → Room names rooted →
+    (d : Tagged xs (p + 1) t) → t.empty ≡ e → FindsAt xs p names rooted (opens d.stop t.end e)
+start_at xs p names rooted t e b r d f =
+    found xs p names rooted StartTag _ (sym b) (start r (record { name = d.spelled; close = d.close; tag = d.rest; ends = d.ends; slash = sym f ∙ d.slash }))
 
-pub empty_hands : (s t : Xml) (r : Result (Option (Event Name)) XmlFault) → s.closing ≡ false → t.closing ≡ true → t.rooted ≡ begun_by s.rooted r →
-    Gives (xml_meaning s).events (xml_ending s) (Close ∷ (xml_meaning t).events) (xml_ending t) r → Hands s t r
-empty_hands s t r e f b g =
-    let h = gives_empty s.closing _ _ _ _ r e g in
-    record { first = h.first; others = ap (λ x. map labelled (pending x (xml_meaning t).events)) f ∙ h.others; ending = h.ending; nested = nested s; begun = b }
+-- an end tag that closes the innermost element
+pub end_at : (xs : List ℕ) (p : ℕ) (names : List (List ℕ)) (rooted : Bool) (n q : ℕ) → markup (drop p xs) ≡ EndTag → Innermost names (part xs (p + 2) n) →
+    Spelled xs (p + 2) n → EndEnds xs n q → FindsAt xs p names rooted (closes (q + 1))
+end_at xs p names rooted n q b i s t = found xs p names rooted EndTag _ (sym b) (end_tag i (record { name = s; close = q; tag = t; ends = refl }))
 
-pub room : (xs : List ℕ) (spans : List Span) (d : ℕ) (rooted : Bool) → d < levels → (d ≡ 0 → rooted ≡ false) → Room (open_names xs spans d) rooted
-room xs spans d rooted h g =
-    let l = length_names xs spans d in
-    record { alone = λ e. let z : length (open_names xs spans d) ≡ 0 = ap length e in g (omega arith); few = omega arith }
+pub some_open : (names : List (List ℕ)) → some names ≡ not (eqb (length names) 0)
+some_open [] = refl
+some_open (n ∷ ns) = sym (ap not (ne_eqb (length (n ∷ ns)) 0 (λ e. omega arith)))
 
-pub some_ltb : (xs : List ℕ) (spans : List Span) (d : ℕ) → some (open_names xs spans d) ≡ ltb 0 d
-some_ltb xs spans zero = refl
-some_ltb xs spans (suc d) = sym (lt-ltb 0 (suc d) (omega arith))
-
--- what goes by first, and then nothing is handed out
-pub record Stays (es : List (Event (List ℕ))) (end : Option XmlFault) (ds : List (Event (List ℕ))) (to : Option XmlFault) (b : Bool) (r : Result (Option (Event Name)) XmlFault) : Type 0 where
-  pub first : r ≡ answer (map labelled (pending b es)) end
-  pub others : map labelled (pending b ds) ≡ rest (map labelled (pending b es))
-  pub ending : to ≡ end
-
-pub stays : (xs : List ℕ) (inside : Bool) (p q : ℕ) (names : List (List ℕ)) (rooted b : Bool) (r : Result (Option (Event Name)) XmlFault) →
-    b ≡ false → Passes xs inside p q → some names ≡ inside →
-    Gives (reading xs q names rooted).events (reading xs q names rooted).ending (reading xs q names rooted).events (reading xs q names rooted).ending r →
-    Stays (reading xs p names rooted).events (reading xs p names rooted).ending (reading xs q names rooted).events (reading xs q names rooted).ending b r
-stays xs inside p q names rooted b r e d i g =
-    let s = passes_same xs inside p q names rooted d i in
-    let h = gives_pending b b _ _ _ _ r e e g in
-    record {
-      first = h.first ∙ (λ k. answer (map labelled (pending b (sym s.0 k))) (sym s.1 k));
-      others = h.others ∙ ap (λ x. rest (map labelled (pending b x))) (sym s.0);
-      ending = sym s.1;
-    }
-
-pub open_found : (xs : List ℕ) (p : ℕ) (spans : List Span) (d : ℕ) (rooted : Bool) (k : Markup) (q : ℕ) → Finds xs p (open_names xs spans d) rooted k (closes q) → 0 < d
-open_found xs p spans zero rooted k q (end_tag i f) = absurd i
-open_found xs p spans (suc d) rooted k q f = omega arith
-
-pub innermost_is : (xs : List ℕ) (spans : List Span) (d : ℕ) (w : List ℕ) (r : Bool) → (d ≡ 0 → r ≡ false) → (0 < d → Decides r (LastIs xs spans d w)) → Decides r (Innermost (open_names xs spans d) w)
-innermost_is xs spans zero w r n h = (λ e. both_ways r (n refl) e, λ i. absurd i)
-innermost_is xs spans (suc d) w r n h =
-    let e : suc d - 1 ≡ d = omega arith in
-    subst (λ k. Decides r (w ≡ spanned xs (span spans k))) e (h (omega arith))
+pub open_found : (xs : List ℕ) (p : ℕ) (names : List (List ℕ)) (rooted : Bool) (k : Markup) (q : ℕ) → Finds xs p names rooted k (closes q) → 0 < length names
+open_found xs p [] rooted k q (end_tag i f) = absurd i
+open_found xs p (n ∷ ns) rooted k q f = omega arith
 
 pub root_fails : (xs : List ℕ) (p q : ℕ) (f : XmlFault) → Passes xs false p q → FindsAt xs q [] false (refuses (number f) (place f)) → RootFails xs p f
 root_fails xs p q f d g =
@@ -207,41 +174,20 @@ root_fails xs p q f d g =
     let m = means xs q [] false [] (Some f) (refused f g) in
     record { none = s.0 ∙ m.0; ends = s.1 ∙ m.1 }
 
-pub root_named : (xs : List ℕ) (p q n r : ℕ) (e : Bool) → Passes xs false p q → q + 1 ≤ n → n ≤ length xs → FindsAt xs q [] false (opens n r e) → RootNamed xs p (q + 1) n
-root_named xs p q n r false d o w g =
+pub root_named : (xs : List ℕ) (p q n r : ℕ) (e : Bool) (w : List ℕ) → w ≡ part xs (q + 1) n → Passes xs false p q → FindsAt xs q [] false (opens n r e) → RootNamed xs p w
+root_named xs p q n r false w c d g =
     let s = passes_same xs false p q [] false d refl in
     let t = reading xs r (part xs (q + 1) n ∷ []) true in
     let m = means xs q [] false _ _ (opened g t.reads) in
-    record { others = t.events; first = s.0 ∙ m.0; order = o; within = w }
-root_named xs p q n r true d o w g =
+    record { others = t.events; first = s.0 ∙ m.0 ∙ ap (λ x. Opening x ∷ t.events) (sym c); from = q + 1; to = n; cut = c }
+root_named xs p q n r true w c d g =
     let s = passes_same xs false p q [] false d refl in
     let t = reading xs r [] true in
     let m = means xs q [] false _ _ (opened_empty g t.reads) in
-    record { others = Close ∷ t.events; first = s.0 ∙ m.0; order = o; within = w }
+    record { others = Closing ∷ t.events; first = s.0 ∙ m.0 ∙ ap (λ x. Opening x ∷ Closing ∷ t.events) (sym c); from = q + 1; to = n; cut = c }
 
 pub root_room : Room [] false
 root_room = record { alone = λ _. refl; few = omega arith }
 
--- before the root a reader means what the bytes mean with nothing open
-early_names : (s : Xml) → s.rooted ≡ false → (xml_names s ≡ []) × (s.closing ≡ false)
-early_names s e = let h = s.fresh e in (none_open s.input.now s.opened s.depth h.0, h.1)
-
-early_bytes : (s : Xml) → s.rooted ≡ false →
-    (xml_bytes s ≡ (reading s.input.now s.place [] false).events) × (xml_ending s ≡ (reading s.input.now s.place [] false).ending)
-early_bytes s e =
-    let n = early_names s e in
-    let xs = s.input.now in
-    ((λ i. pending (n.1 i) (reading xs s.place (n.0 i) (e i)).events), (λ i. (reading xs s.place (n.0 i) (e i)).ending))
-
-pub begun_closing : (s : Xml) → s.closing ≡ true → s.rooted ≡ true
-begun_closing s e = elim (cases_Bool s.rooted) [ inl r ↦ r | inr r ↦ absurd (both_ways _ (s.fresh r).1 e) ]
-
-pub begun_open : (s : Xml) → 0 < s.depth → s.rooted ≡ true
-begun_open s d = elim (cases_Bool s.rooted) [ inl r ↦ r | inr r ↦ let z = (s.fresh r).0 in absurd (omega arith) ]
-
-pub looks : (s : Xml) (a b : ℕ) (w : List ℕ) → s.rooted ≡ false → w ≡ part s.input.now a b → RootNamed s.input.now s.place a b → Looks s w
-looks s a b w e f r =
-    record { early = e; others = r.others; first = (early_bytes s e).0 ∙ r.first ∙ ap (λ x. Open x ∷ r.others) (sym f); from = a; to = b; cut = f }
-
-pub fails : (s : Xml) (f : XmlFault) → s.rooted ≡ false → RootFails s.input.now s.place f → Fails s f
-fails s f e r = let h = early_bytes s e in record { early = e; none = h.0 ∙ r.none; ends = h.1 ∙ r.ends }
+pub begun_open : (s : Tags) → 0 < length (tags_names s) → s.rooted ≡ true
+begun_open s d = elim (cases_Bool s.rooted) [ inl r ↦ r | inr r ↦ let z : length (tags_names s) ≡ 0 = ap (λ ns. length (open_names ns)) (s.fresh r) in absurd (omega arith) ]

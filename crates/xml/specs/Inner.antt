@@ -1,17 +1,15 @@
 -- What the private functions say.
-use Rattle.std.specs.Prelude.{◌≡◌, ℕ, ◌+◌, ◌<◌, ◌≤◌, Bool, true, false, List, [], ◌∷◌, length, drop, Some, None, Option, Result, ◌≢◌}
-use Rattle.labels.specs.Spelling.{byte, part, white, Longest, Spelled}
+use Rattle.std.specs.Prelude.{◌≡◌, ℕ, ◌+◌, ◌-◌, ◌<◌, ◌≤◌, Bool, true, false, List, [], ◌∷◌, ◌++◌, map, length, drop, Some, None, Option, ◌==◌, ◌≢◌}
+use Rattle.labels.specs.Spelling.{byte, part, Spelled}
 use Rattle.labels.specs.declared.name.Name.{Name}
 use Rattle.sources.specs.declared.event.Event.{Event}
-use Rattle.sources.specs.declared.event.Event.TheVariants.{Open}
-use Rattle.sources.specs.Events.{answer, rest, ClosedFrom}
-use Rattle.xml.specs.Bytes.{plain}
+use Rattle.sources.specs.declared.event.Event.TheVariants.{Open, Close}
 use Rattle.xml.specs.Faults.{scan_number, scan_place, number, place}
 use Rattle.xml.specs.Markup.{markup, TagEnds}
-use Rattle.xml.specs.Reading.{FindsAt, Room}
-use Rattle.xml.specs.Reading.Found.{skips, closes, refuses}
+use Rattle.xml.specs.Reading.{Finds, FindsAt}
+use Rattle.xml.specs.Reading.Found.{skips, refuses}
 use Rattle.xml.specs.Total.{reading}
-use Rattle.xml.specs.Means.{xml_names, xml_events, xml_ending, begun_by}
+use Rattle.xml.specs.Means.{labelled, tags_names, tags_meaning}
 use Rattle.xml.specs.declared.fault.Markup.{Markup}
 use Rattle.xml.specs.declared.fault.Markup.TheVariants.{Nothing, StartTag, EndTag}
 use Rattle.xml.specs.declared.fault.ScanFault.{ScanFault}
@@ -19,30 +17,32 @@ use Rattle.xml.specs.declared.fault.ScanFault.TheVariants.{Byte, End, LongName}
 use Rattle.xml.specs.declared.fault.Stop.{Stop}
 use Rattle.xml.specs.declared.fault.Stop.TheVariants.{StartTag as start_tag, EndTag as end_tag, End as at_end}
 use Rattle.xml.specs.declared.fault.XmlFault.{XmlFault}
-use Rattle.xml.specs.declared.reader.Xml.{Xml}
-use Rattle.xml.specs.declared.skip.Step.{Step}
-use Rattle.xml.specs.declared.skip.Step.TheVariants.{Past, At}
+use Rattle.xml.specs.declared.tags.Tag.{Tag}
+use Rattle.xml.specs.declared.tags.Tag.TheVariants.{Open as opens, Empty as empties, Close as closes}
+use Rattle.xml.specs.declared.reader.Tags.{Tags}
+use Rattle.xml.specs.declared.scan.Opening.{Opening}
+use Rattle.std.specs.declared.ops.ControlFlow.{ControlFlow}
+use Rattle.std.specs.declared.ops.ControlFlow.TheVariants.{Continue, Break}
 
 -- Of the scans: what holds of a fault's number and place
 abbrev pub Told : (ℕ → ℕ → Type 0) → ScanFault → Type 0
 Told D f = D (scan_number f) (scan_place f)
 
--- the first bracket from n on is a `>`, at c
-pub record Bracketed (xs : List ℕ) (n c : ℕ) : Type 0 where
-  pub rest : Longest (λ i. plain (byte xs i)) (length xs) n c
-  pub closes : byte xs c ≡ 62
-
--- it is a `<`, or there is none
-abbrev pub Unbracketed : List ℕ → ℕ → ScanFault → Type 0
-Unbracketed xs n (Byte c) = Longest (λ i. plain (byte xs i)) (length xs) n c × (byte xs c ≡ 60)
-Unbracketed xs n (End c) = Longest (λ i. plain (byte xs i)) (length xs) n c × (c ≡ length xs)
-Unbracketed xs n (LongName c) = ⊥
-
--- no `>` follows the white space from n on
+-- no `>` stands at p
 abbrev pub Unclosed : List ℕ → ℕ → ScanFault → Type 0
-Unclosed xs n (Byte c) = Longest (λ i. white (byte xs i)) (length xs) n c × (c < length xs) × (byte xs c ≢ 62)
-Unclosed xs n (End c) = Longest (λ i. white (byte xs i)) (length xs) n c × (c ≡ length xs)
-Unclosed xs n (LongName c) = ⊥
+Unclosed xs p (Byte c) = (c ≡ p) × (p < length xs) × (byte xs p ≢ 62)
+Unclosed xs p (End c) = (length xs ≤ p) × (c ≡ length xs)
+Unclosed xs p (LongName c) = ⊥
+
+-- a start tag whose name begins at b
+pub record Tagged (xs : List ℕ) (b : ℕ) (t : Opening) : Type 0 where
+  pub stop : ℕ
+  pub close : ℕ
+  pub spelled : Spelled xs b stop
+  pub name : t.name.now ≡ part xs b stop
+  pub rest : TagEnds xs stop close
+  pub ends : t.end ≡ close + 1
+  pub slash : t.empty ≡ (byte xs (close - 1) == 47)
 
 -- Between tags: whether an element is open
 abbrev pub some : List (List ℕ) → Bool
@@ -69,45 +69,62 @@ stop_markup end_tag = EndTag
 stop_markup at_end = Nothing
 
 -- one step of the way from p on
-abbrev pub Steps : List ℕ → Bool → ℕ → Step → Type 0
-Steps xs inside p (Past q) = GoesBy xs inside p q × (p < q) × (q ≤ length xs)
-Steps xs inside p (At s) = stop_markup s ≡ markup (drop p xs)
+abbrev pub Steps : List ℕ → Bool → ℕ → ControlFlow Stop ℕ → Type 0
+Steps xs inside p (Continue q) = GoesBy xs inside p q × (p < q) × (q ≤ length xs)
+Steps xs inside p (Break s) = stop_markup s ≡ markup (drop p xs)
 
--- Of the reader: it hands out the first event and keeps the others, or answers the ending
-pub record Hands (s t : Xml) (r : Result (Option (Event Name)) XmlFault) : Type 0 where
-  pub first : r ≡ answer (xml_events s) (xml_ending s)
-  pub others : xml_events t ≡ rest (xml_events s)
-  pub ending : xml_ending t ≡ xml_ending s
-  pub nested : xml_ending s ≡ None → ClosedFrom 0 (xml_events s)
-  pub begun : t.rooted ≡ begun_by s.rooted r
+-- Of the reading tag by tag: the events to come, and the ending
+abbrev pub tags_events : Tags → List (Event Name)
+tags_events s = map labelled (tags_meaning s).events
+
+abbrev pub tags_ending : Tags → Option XmlFault
+tags_ending s = (tags_meaning s).ending
+
+-- the events of a tag
+abbrev pub handed : Option Tag → List (Event Name)
+handed None = []
+handed (Some (opens l)) = Open l ∷ []
+handed (Some (empties l)) = Open l ∷ Close ∷ []
+handed (Some closes) = Close ∷ []
+
+-- whether a tag is behind the reader then
+abbrev pub passed : Bool → Option Tag → Bool
+passed before None = before
+passed before (Some t) = true
+
+-- no element may begin at the place
+abbrev pub NoRoom : Tags → XmlFault → Type 0
+NoRoom s f = Finds s.input.now s.place (tags_names s) s.rooted StartTag (refuses (number f) (place f))
+
+-- the tag's events are the first, and the others are kept
+pub record Gives (s t : Tags) (r : Option Tag) : Type 0 where
+  pub events : tags_events s ≡ handed r ++ tags_events t
+  pub ending : tags_ending t ≡ tags_ending s
+  pub done : r ≡ None → (tags_events s ≡ []) × (tags_ending s ≡ None)
+  pub rooted : t.rooted ≡ passed s.rooted r
+
+-- no event is left, and the fault is the ending
+pub record Refuses (s t : Tags) (f : XmlFault) : Type 0 where
+  pub none : tags_events s ≡ []
+  pub ends : tags_ending s ≡ Some f
+  pub left : tags_events t ≡ []
+  pub ending : tags_ending t ≡ tags_ending s
+  pub rooted : t.rooted ≡ s.rooted
 
 -- it stops, and the same events are to come
-pub record Comes (s t : Xml) (k : Stop) : Type 0 where
-  pub events : xml_events t ≡ xml_events s
-  pub ending : xml_ending t ≡ xml_ending s
-  pub nested : xml_ending s ≡ None → ClosedFrom 0 (xml_events s)
+pub record Comes (s t : Tags) (k : Stop) : Type 0 where
+  pub events : tags_events s ≡ tags_events t
+  pub ending : tags_ending t ≡ tags_ending s
   pub rooted : t.rooted ≡ s.rooted
-  pub still : t.closing ≡ false
   pub markup : markup (drop t.place t.input.now) ≡ stop_markup k
 
--- a start tag at its place may open an element: the name ends at n, and the `>` stands at c
-pub record Opens (s : Xml) (n c : ℕ) : Type 0 where
-  pub begins : markup (drop s.place s.input.now) ≡ StartTag
-  pub room : Room (xml_names s) s.rooted
-  pub name : Spelled s.input.now (s.place + 1) n
-  pub tag : TagEnds s.input.now n c
-
--- an end tag at its place, which ends at q, closes the innermost element
-pub record Closes (s : Xml) (q : ℕ) : Type 0 where
-  pub found : FindsAt s.input.now s.place (xml_names s) s.rooted (closes q)
-  pub within : q ≤ length s.input.now
-
--- Of a look ahead: the root's name stands from a to b
-pub record RootNamed (xs : List ℕ) (p a b : ℕ) : Type 0 where
+-- Of a look ahead: the root's name is a part of the input
+pub record RootNamed (xs : List ℕ) (p : ℕ) (w : List ℕ) : Type 0 where
   pub others : List (Event (List ℕ))
-  pub first : (reading xs p [] false).events ≡ Open (part xs a b) ∷ others
-  pub order : a ≤ b
-  pub within : b ≤ length xs
+  pub first : (reading xs p [] false).events ≡ Open w ∷ others
+  pub from : ℕ
+  pub to : ℕ
+  pub cut : w ≡ part xs from to
 
 -- the listing ends in the fault before any event
 pub record RootFails (xs : List ℕ) (p : ℕ) (f : XmlFault) : Type 0 where

@@ -6,6 +6,5 @@ pub mod Reading
 pub mod Total
 pub mod Documents
 pub mod Laws
-pub mod Spans
 pub mod Means
 pub mod Inner

@@ -1,24 +1,28 @@
 -- What a reader means at its place, and what a look ahead answers.
-use Rattle.std.specs.Prelude.{◌≡◌, ℕ, Bool, true, false, List, [], ◌∷◌, map, Some, None, Ok, Err, Option, Result}
+use Rattle.std.specs.Prelude.{◌≡◌, ℕ, Bool, true, false, List, [], ◌∷◌, map, reverse, Some, None, Ok, Err, Option, Result}
+use denote.Ref.{Bor}
 use Rattle.labels.specs.Spelling.{part}
 use Rattle.labels.specs.Names.{name_of}
 use Rattle.labels.specs.declared.name.Name.{Name}
 use Rattle.sources.specs.declared.event.Event.{Event}
 use Rattle.sources.specs.declared.event.Event.TheVariants.{Open, Close}
 use Rattle.xml.specs.Total.{Meaning, reading}
-use Rattle.xml.specs.Spans.{open_names}
 use Rattle.xml.specs.declared.fault.XmlFault.{XmlFault}
 use Rattle.xml.specs.declared.fault.LookFault.{LookFault}
 use Rattle.xml.specs.declared.fault.LookFault.TheVariants.{Listing, Begun}
 use Rattle.xml.specs.declared.reader.Xml.{Xml}
+use Rattle.xml.specs.declared.reader.Tags.{Tags}
 
--- the names of the open elements, innermost first
-abbrev pub xml_names : Xml → List (List ℕ)
-xml_names s = open_names s.input.now s.opened s.depth
+-- the bytes of the names of the open elements, innermost first
+abbrev pub open_names : List (Bor (List ℕ)) → List (List ℕ)
+open_names names = reverse (map (λ n. n.now) names)
+
+abbrev pub tags_names : Tags → List (List ℕ)
+tags_names s = open_names s.opened.items
 
 -- the meaning of the input from the place on
-abbrev pub xml_meaning : (s : Xml) → Meaning s.input.now s.place (xml_names s) s.rooted
-xml_meaning s = reading s.input.now s.place (xml_names s) s.rooted
+abbrev pub tags_meaning : (s : Tags) → Meaning s.input.now s.place (tags_names s) s.rooted
+tags_meaning s = reading s.input.now s.place (tags_names s) s.rooted
 
 -- before these events an empty element may have to be closed
 abbrev pub pending : Bool → List (Event (List ℕ)) → List (Event (List ℕ))
@@ -27,7 +31,7 @@ pending false es = es
 
 -- the events still to come, with the bytes of names for labels
 abbrev pub xml_bytes : Xml → List (Event (List ℕ))
-xml_bytes s = pending s.closing (xml_meaning s).events
+xml_bytes s = pending s.closing (tags_meaning s.tags).events
 
 -- the same with labels
 abbrev pub labelled : Event (List ℕ) → Event Name
@@ -39,7 +43,7 @@ xml_events s = map labelled (xml_bytes s)
 
 -- done, or the first fault
 abbrev pub xml_ending : Xml → Option XmlFault
-xml_ending s = (xml_meaning s).ending
+xml_ending s = (tags_meaning s.tags).ending
 
 -- whether an event is behind the reader after an answer of next
 abbrev pub begun_by : Bool → Result (Option (Event Name)) XmlFault → Bool
@@ -49,29 +53,31 @@ begun_by before (Err f) = before
 
 -- A look ahead answers the root's name, as a part of the input: it is in the first event to come
 pub record Looks (s : Xml) (w : List ℕ) : Type 0 where
-  pub early : s.rooted ≡ false
+  pub early : s.tags.rooted ≡ false
   pub others : List (Event (List ℕ))
   pub first : xml_bytes s ≡ Open w ∷ others
   pub from : ℕ
   pub to : ℕ
-  pub cut : w ≡ part s.input.now from to
+  pub cut : w ≡ part s.tags.input.now from to
 
 -- or the fault that next would answer
 pub record Fails (s : Xml) (f : XmlFault) : Type 0 where
-  pub early : s.rooted ≡ false
+  pub early : s.tags.rooted ≡ false
   pub none : xml_bytes s ≡ []
   pub ends : xml_ending s ≡ Some f
 
 -- or that an event is behind the reader
 abbrev pub NoLook : Xml → LookFault → Type 0
-NoLook s Begun = s.rooted ≡ true
+NoLook s Begun = s.tags.rooted ≡ true
 NoLook s (Listing f) = Fails s f
 
 -- and leaves the reader as it was
-pub record Unmoved (s t : Xml) : Type 0 where
+pub record Kept (s t : Tags) : Type 0 where
   pub input : t.input.now ≡ s.input.now
   pub place : t.place ≡ s.place
-  pub depth : t.depth ≡ s.depth
   pub opened : t.opened ≡ s.opened
   pub rooted : t.rooted ≡ s.rooted
+
+pub record Unmoved (s t : Xml) : Type 0 where
+  pub tags : Kept s.tags t.tags
   pub closing : t.closing ≡ s.closing

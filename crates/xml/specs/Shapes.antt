@@ -1,7 +1,7 @@
 -- What the bytes from a place on are, by the place.
-use Rattle.std.specs.Prelude.{◌≡◌, ℕ, suc, ◌+◌, ◌-◌, ◌<◌, ◌≤◌, Bool, true, false, cond, ◌||◌, ◌⊎◌, List, [], ◌∷◌, length, take, drop, ◌==◌, ◌≢◌, slice_index, refl}
+use Rattle.std.specs.Prelude.{◌≡◌, ℕ, suc, ◌+◌, ◌-◌, ◌<◌, ◌≤◌, Bool, true, false, cond, ◌||◌, ◌⊎◌, List, [], ◌∷◌, length, drop, ◌==◌, ◌≢◌, slice_index, refl}
 use Rattle.std.proofs.Common.{sym, ◌∙◌, ap, subst, inl, inr, add-zero, arith, length-drop}
-use Rattle.std.proofs.lemmas.List.{take_rest, get_or-drop}
+use Rattle.std.proofs.lemmas.List.{get_or-drop}
 use Rattle.std.proofs.lemmas.Bool.{cases_lt, and_parts, not-false, eqb-true, or_cases}
 use Rattle.labels.specs.Spelling.{byte, white, starts, Longest}
 use Rattle.xml.specs.Bytes.{plain, apart}
@@ -9,14 +9,16 @@ use Rattle.xml.specs.Markup.{markup, behind, two_dashes, TagEnds}
 use Rattle.xml.specs.declared.fault.Markup.{Markup}
 use Rattle.xml.specs.declared.fault.Markup.TheVariants.{Nothing, Text, EndTag, Comment, Declaration, Instruction, StartTag, Cut, Stray}
 
-pub rest_byte : (xs : List ℕ) (d k : ℕ) → slice_index (take (length xs - d) (drop d xs)) k ≡ byte xs (d + k)
-rest_byte xs d k = ap (λ l. slice_index l k) (take_rest xs d) ∙ get_or-drop d xs k 0
+-- the bytes from a place on, by the place
+pub record From (xs : List ℕ) (d : ℕ) (bs : List ℕ) : Type 0 where
+  pub long : length bs ≡ length xs - d
+  pub first : slice_index bs 0 ≡ byte xs d
+  pub at : (k : ℕ) → slice_index bs k ≡ byte xs (d + k)
 
-pub rest_first : (xs : List ℕ) (d : ℕ) → slice_index (take (length xs - d) (drop d xs)) 0 ≡ byte xs d
-rest_first xs d = rest_byte xs d 0 ∙ ap (byte xs) (add-zero d)
-
-pub rest_length : (xs : List ℕ) (d : ℕ) → length (take (length xs - d) (drop d xs)) ≡ length xs - d
-rest_length xs d = ap length (take_rest xs d) ∙ length-drop d xs
+pub from_place : (xs bs : List ℕ) (d : ℕ) → bs ≡ drop d xs → From xs d bs
+from_place xs bs d e =
+    let at : (k : ℕ) → slice_index bs k ≡ byte xs (d + k) = λ k. ap (λ l. slice_index l k) e ∙ get_or-drop d xs k 0 in
+    record { long = ap length e ∙ length-drop d xs; first = at 0 ∙ ap (byte xs) (add-zero d); at = at }
 
 -- how long the markup is at least, by what begins
 dashes_long : (bs : List ℕ) → two_dashes bs ≡ true → 2 ≤ length bs
@@ -103,6 +105,13 @@ not_plain b h n = go (or_cases (b == 60) (b == 62) (not-false _ h))
     go : (((b == 60) ≡ true) ⊎ ((b == 62) ≡ true)) → b ≡ 62
     go (inl e) = absurd (n (eqb-true b 60 e))
     go (inr e) = eqb-true b 62 e
+
+pub no_close : (b : ℕ) → plain b ≡ false → (b ≢ 62) → b ≡ 60
+no_close b h n = go (or_cases (b == 60) (b == 62) (not-false _ h))
+  where
+    go : (((b == 60) ≡ true) ⊎ ((b == 62) ≡ true)) → b ≡ 60
+    go (inl e) = eqb-true b 60 e
+    go (inr e) = absurd (n (eqb-true b 62 e))
 
 pub bracket_tag : (xs : List ℕ) (n c : ℕ) → (white (byte xs n) || byte xs n == 62) ≡ true → Longest (λ i. plain (byte xs i)) (length xs) n c →
     c < length xs → (byte xs c ≢ 60) → TagEnds xs n c

@@ -1,8 +1,10 @@
 // What can be wrong with a listing, and what the reader comes to.
-ghost use Rattle.std.specs.Prelude.{◌≡◌};
-ghost use Rattle.xml.specs.Faults.{scan_number, scan_place, number, place, look_number};
+ghost use Rattle.std.specs.Prelude.{◌≡◌, Some};
+ghost use Rattle.xml.specs.Faults.{scan_number, scan_place, number, place, fault_text, look_number};
 ghost use Rattle.xml.specs.declared.fault.LookFault.{LookFault};
 ghost use Rattle.xml.specs.declared.fault.XmlFault.{XmlFault};
+
+use std::fmt;
 
 // What a scan finds, with the place.
 #[derive(Clone, Copy, PartialEq, Eq, Debug)]
@@ -49,9 +51,7 @@ impl ScanFault {
         ensures { result ≡ scan_place self.now }
     {
         match self {
-            ScanFault::Byte(at) => *at,
-            ScanFault::End(at) => *at,
-            ScanFault::LongName(at) => *at,
+            ScanFault::Byte(at) | ScanFault::End(at) | ScanFault::LongName(at) => *at,
         }
     }
 }
@@ -73,10 +73,17 @@ impl XmlFault {
     {
         match self {
             XmlFault::Scan(fault) => fault.place(),
-            XmlFault::WrongName(at) => *at,
-            XmlFault::NotComment(at) => *at,
-            XmlFault::Deep(at) => *at,
+            XmlFault::WrongName(at) | XmlFault::NotComment(at) | XmlFault::Deep(at) => *at,
         }
+    }
+}
+
+// The number and the place, as `33 at 8`.
+impl fmt::Display for XmlFault {
+    ghost output = { λ f. Some (fault_text f) };
+
+    fn fmt<W: fmt::Write>(&self, f: &mut fmt::Formatter<W>) -> fmt::Result {
+        write!(f, "{} at {}", self.number(), self.place())
     }
 }
 

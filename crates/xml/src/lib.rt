@@ -7,3 +7,4 @@ pub mod reader;
 mod scan;
 mod skip;
 pub mod source;
+mod tags;

@@ -1,10 +1,10 @@
 // Looking ahead at the root's name.
 ghost use Rattle.std.specs.Prelude.{◌≡◌, ◌≤◌, false, length, MatchResult};
-ghost use Rattle.xml.specs.Means.{Looks, Fails, NoLook, Unmoved};
+ghost use Rattle.xml.specs.Means.{Looks, NoLook, Kept, Unmoved};
 ghost use Rattle.xml.specs.Inner.{RootNamed, RootFails};
 
 use crate::fault::{LookFault, ScanFault, Stop, XmlFault};
-use crate::reader::Xml;
+use crate::reader::{Tags, Xml};
 use crate::scan::{name_end, start_tag};
 use crate::skip::skip;
 
@@ -23,32 +23,27 @@ impl Drop for Guard<'_> {
     }
 }
 
-// Reads on to the root's start tag, and tells where its name stands.
-fn root_name(input: &[u8], place: &mut usize) -> Result<(usize, usize), XmlFault>
-    requires { place.old ≤ length input.now }
-    ensures { MatchResult result (λ t. RootNamed input.now place.old t.0 t.1) (RootFails input.now place.old) }
+// Reads on to the root's start tag, and answers its name.
+fn root_name<'a>(input: &'a [u8], place: &mut usize) -> Result<&'a [u8], XmlFault>
+    ensures { MatchResult result (λ w. RootNamed input.now place.old w.now) (RootFails input.now place.old) }
 {
     let stop = skip(input, place, false)?;
     let at = *place;
     match stop {
-        Stop::StartTag => {
-            let (end, _) = start_tag(input, at + 1)?;
-            Ok((at + 1, end))
-        }
+        Stop::StartTag => Ok(start_tag(input, at + 1)?.name),
         Stop::EndTag => {
             name_end(input, at + 2)?;
             Err(XmlFault::WrongName(at + 2))
         }
-        Stop::End => Err(XmlFault::Scan(ScanFault::End(input.len()))),
+        Stop::End => Err(ScanFault::End(input.len()).into()),
     }
 }
 
-impl<'a> Xml<'a> {
+impl<'a> Tags<'a> {
     // The root's name, with the place put back.
     fn root(&mut self) -> Result<&'a [u8], XmlFault>
-        requires { self.old.rooted ≡ false }
-        ensures answer { MatchResult result (λ w. Looks self.old w.now) (Fails self.old) }
-        ensures unmoved { Unmoved self.old self.new }
+        ensures answer { MatchResult result (λ w. RootNamed self.old.input.now self.old.place w.now) (RootFails self.old.input.now self.old.place) }
+        ensures kept { Kept self.old self.new }
     {
         let input = self.input;
         let saved = self.place;
@@ -56,18 +51,19 @@ impl<'a> Xml<'a> {
             place: &mut self.place,
             saved,
         };
-        let (from, to) = root_name(input, guard.place)?;
-        Ok(&input[from..to])
+        root_name(input, guard.place)
     }
+}
 
+impl<'a> Xml<'a> {
     // The root's name, before the first event.
     pub fn look_ahead(&mut self) -> Result<&'a [u8], LookFault>
         ensures answer { MatchResult result (λ w. Looks self.old w.now) (NoLook self.old) }
         ensures unmoved { Unmoved self.old self.new }
     {
-        if self.rooted {
+        if self.tags.rooted {
             return Err(LookFault::Begun);
         }
-        Ok(self.root()?)
+        Ok(self.tags.root()?)
     }
 }

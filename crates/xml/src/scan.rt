@@ -1,13 +1,21 @@
-// Where names and tags end.
-ghost use Rattle.std.specs.Prelude.{◌≡◌, ◌<◌, ◌≤◌, length, MatchResult};
+// Where names and tags end. A scan starts at any place, also past the end of the input. It takes and answers bare places, since the
+// faults and the tags tell places: a cursor would be taken apart and made again at each step.
+ghost use Rattle.std.specs.Prelude.{◌≡◌, ◌≤◌, length, drop, MatchResult};
 ghost use Rattle.labels.specs.Spelling.{byte, Longest, Spelled};
 ghost use Rattle.xml.specs.Bytes.{plain};
-ghost use Rattle.xml.specs.Markup.{TagEnds, EndEnds, NameFault, TagFault, StartFault};
-ghost use Rattle.xml.specs.Inner.{Told, Bracketed, Unbracketed, Unclosed};
+ghost use Rattle.xml.specs.Markup.{TagEnds, EndEnds, NameFault, TagFault, StartFault, EndFault};
+ghost use Rattle.xml.specs.Inner.{Told, Unclosed, Tagged};
 
 use crate::fault::ScanFault;
 use labels::spelling;
 use labels::spelling::{NoName, is_white, white_end};
+
+// The bytes from the place on; past the end there are none.
+pub fn rest(input: &[u8], at: usize) -> &[u8]
+    ensures { result.now ≡ drop at input.now }
+{
+    input.get(at..).unwrap_or_default()
+}
 
 // The end of the name at the place.
 pub fn name_end(input: &[u8], at: usize) -> Result<usize, ScanFault>
@@ -15,51 +23,29 @@ pub fn name_end(input: &[u8], at: usize) -> Result<usize, ScanFault>
 {
     match spelling::name_end(input, at) {
         Ok(end) => Ok(end),
-        Err(why) => match why {
-            NoName::TooLong(_) => Err(ScanFault::LongName(at)),
-            NoName::Missing if at < input.len() => Err(ScanFault::Byte(at)),
-            NoName::Missing => Err(ScanFault::End(input.len())),
-        },
+        Err(NoName::TooLong(_)) => Err(ScanFault::LongName(at)),
+        Err(NoName::Missing) if at < input.len() => Err(ScanFault::Byte(at)),
+        Err(NoName::Missing) => Err(ScanFault::End(input.len())),
     }
 }
 
 // The first place of `<` or `>`, or the length.
 fn bracket_place(input: &[u8], from: usize) -> usize
-    requires { from ≤ length input.now }
-    ensures { Longest (λ i. plain (byte input.now i)) (length input.now) from result }
+    ensures { from ≤ length input.now → Longest (λ i. plain (byte input.now i)) (length input.now) from result }
 {
-    let mut at = from;
-    while at < input.len() && input[at] != b'<' && input[at] != b'>' {
-        at += 1;
-    }
-    at
+    (from..input.len())
+        .find(|i| input[*i] == b'<' || input[*i] == b'>')
+        .unwrap_or(input.len())
 }
 
-// The place of the first `>` from `at` on, with no `<` before it.
-fn bracket_end(input: &[u8], at: usize) -> Result<usize, ScanFault>
-    requires { at ≤ length input.now }
-    ensures { MatchResult result (Bracketed input.now at) (Unbracketed input.now at) }
+// The place, where a `>` must stand.
+fn close_at(input: &[u8], at: usize) -> Result<usize, ScanFault>
+    ensures { MatchResult result (λ c. (c ≡ at) × (byte input.now at ≡ 62)) (Unclosed input.now at) }
 {
-    let close = bracket_place(input, at);
-    if close >= input.len() {
-        return Err(ScanFault::End(close));
-    }
-    if input[close] == b'<' {
-        return Err(ScanFault::Byte(close));
-    }
-    Ok(close)
-}
-
-// The place of the `>` that must follow a `/` right after the name.
-fn slash_end(input: &[u8], at: usize) -> Result<usize, ScanFault>
-    requires within { at < length input.now }
-    requires slash { byte input.now at ≡ 47 }
-    ensures { MatchResult result (TagEnds input.now at) (Told (TagFault input.now at)) }
-{
-    match &input[at + 1..] {
+    match rest(input, at) {
         [] => Err(ScanFault::End(input.len())),
-        [b'>', ..] => Ok(at + 1),
-        _ => Err(ScanFault::Byte(at + 1)),
+        [b'>', ..] => Ok(at),
+        [..] => Err(ScanFault::Byte(at)),
     }
 }
 
@@ -67,39 +53,43 @@ fn slash_end(input: &[u8], at: usize) -> Result<usize, ScanFault>
 fn tag_end(input: &[u8], at: usize) -> Result<usize, ScanFault>
     ensures { MatchResult result (TagEnds input.now at) (Told (TagFault input.now at)) }
 {
-    if at >= input.len() {
-        return Err(ScanFault::End(input.len()));
+    match rest(input, at) {
+        [] => Err(ScanFault::End(input.len())),
+        [b'/', ..] => close_at(input, at + 1),
+        [b, ..] => {
+            if is_white(*b) || *b == b'>' {
+                close_at(input, bracket_place(input, at))
+            } else {
+                Err(ScanFault::Byte(at))
+            }
+        }
     }
-    let b = input[at];
-    if b == b'/' {
-        return slash_end(input, at);
-    }
-    if is_white(b) || b == b'>' {
-        return bracket_end(input, at);
-    }
-    Err(ScanFault::Byte(at))
 }
 
-// The end of the name of a start tag, which begins at `from`, and the place of the tag's `>`.
-pub fn start_tag(input: &[u8], from: usize) -> Result<(usize, usize), ScanFault>
-    ensures { MatchResult result (λ t. Spelled input.now from t.0 × TagEnds input.now t.0 t.1) (Told (StartFault input.now from)) }
+// A start tag: its name, the place behind the tag, and whether the element is empty.
+#[derive(Clone, Copy)]
+pub struct Opening<'a> {
+    pub name: &'a [u8],
+    pub end: usize,
+    pub empty: bool,
+}
+
+// The start tag whose name begins at the place.
+pub fn start_tag(input: &[u8], at: usize) -> Result<Opening<'_>, ScanFault>
+    ensures { MatchResult result (Tagged input.now at) (Told (StartFault input.now at)) }
 {
-    let name = name_end(input, from)?;
-    let close = tag_end(input, name)?;
-    Ok((name, close))
+    let name_end = name_end(input, at)?;
+    let close = tag_end(input, name_end)?;
+    Ok(Opening {
+        name: &input[at..name_end],
+        end: close + 1,
+        empty: input[close - 1] == b'/',
+    })
 }
 
 // The place of the `>` that ends an end tag, whose name ends at `at`.
 pub fn end_tag_end(input: &[u8], at: usize) -> Result<usize, ScanFault>
-    requires { at ≤ length input.now }
-    ensures { MatchResult result (EndEnds input.now at) (Unclosed input.now at) }
+    ensures { at ≤ length input.now → MatchResult result (EndEnds input.now at) (Told (EndFault input.now at)) }
 {
-    let close = white_end(input, at);
-    if close >= input.len() {
-        return Err(ScanFault::End(close));
-    }
-    if input[close] != b'>' {
-        return Err(ScanFault::Byte(close));
-    }
-    Ok(close)
+    close_at(input, white_end(input, at))
 }

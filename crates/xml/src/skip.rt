@@ -1,13 +1,15 @@
 // What stands between tags.
-ghost use Rattle.std.specs.Prelude.{◌≡◌, ◌+◌, ◌<◌, ◌≤◌, ◌&&◌, length, drop, MatchResult, ◌==◌, slice_index};
+ghost use Rattle.std.specs.Prelude.{◌≡◌, ◌+◌, ◌<◌, ◌≤◌, ◌&&◌, length, drop, MatchResult, ◌==◌, slice_index, not};
 ghost use Rattle.labels.specs.Spelling.{Longest};
 ghost use Rattle.xml.specs.Bytes.{apart};
-ghost use Rattle.xml.specs.Markup.{markup, behind, CommentEnds, IsComment, IsInstruction, CommentFault, InstructionFault};
+ghost use Rattle.xml.specs.Markup.{markup, behind, IsComment, IsInstruction, CommentFault, InstructionFault};
 ghost use Rattle.xml.specs.Inner.{Told, stop_markup, Steps, Refused, Passes};
 ghost use Rattle.xml.specs.declared.fault.Markup.TheVariants.{Comment, Instruction};
 
 use crate::fault::{Markup, ScanFault, Stop, XmlFault};
+use crate::scan::rest;
 use labels::spelling::{is_white, starts_name};
+use std::ops::ControlFlow;
 
 // Which markup `<` begins, by the bytes behind it.
 fn behind_bracket(rest: &[u8]) -> Markup
@@ -40,41 +42,22 @@ fn which(bytes: &[u8]) -> Markup
     }
 }
 
-// Whether the two bytes stand first.
-fn is_pair(rest: &[u8], first: u8, second: u8) -> bool
-    requires { 0 < second }
-    ensures { result ≡ (slice_index rest.now 0 == first && slice_index rest.now 1 == second) }
+// Whether the two bytes stand at the place.
+fn is_pair(input: &[u8], at: usize, pair: &[u8; 2]) -> bool
+    requires { 0 < slice_index pair.now 1 }
+    ensures { result ≡ not (apart input.now (slice_index pair.now 0) (slice_index pair.now 1) at) }
 {
-    match rest {
-        [a, b, ..] => *a == first && *b == second,
-        _ => false,
-    }
+    rest(input, at).starts_with(pair)
 }
 
 // The first place of the two bytes, or the length.
-fn pair_place(input: &[u8], from: usize, first: u8, second: u8) -> usize
-    requires within { from ≤ length input.now }
-    requires some { 0 < second }
-    ensures { Longest (apart input.now first second) (length input.now) from result }
+fn pair_place(input: &[u8], from: usize, pair: &[u8; 2]) -> usize
+    requires { 0 < slice_index pair.now 1 }
+    ensures { from ≤ length input.now → Longest (apart input.now (slice_index pair.now 0) (slice_index pair.now 1)) (length input.now) from result }
 {
-    let mut at = from;
-    while at < input.len() && !is_pair(&input[at..], first, second) {
-        at += 1;
-    }
-    at
-}
-
-// The end of a comment whose text begins at `from`.
-fn dashes_end(input: &[u8], from: usize) -> Result<usize, ScanFault>
-    requires { from ≤ length input.now }
-    ensures { MatchResult result (CommentEnds input.now from) (Told (CommentFault input.now from)) }
-{
-    let dashes = pair_place(input, from, b'-', b'-');
-    match &input[dashes..] {
-        [_, _, b'>', ..] => Ok(dashes + 3),
-        [_, _, _, ..] => Err(ScanFault::Byte(dashes + 2)),
-        _ => Err(ScanFault::End(input.len())),
-    }
+    (from..input.len())
+        .find(|i| is_pair(input, *i, pair))
+        .unwrap_or(input.len())
 }
 
 // The end of the comment that begins at the place.
@@ -82,7 +65,12 @@ fn comment_end(input: &[u8], at: usize) -> Result<usize, ScanFault>
     requires { markup (drop at input.now) ≡ Comment }
     ensures { MatchResult result (IsComment input.now at) (Told (CommentFault input.now (at + 4))) }
 {
-    dashes_end(input, at + 4)
+    let dashes = pair_place(input, at + 4, b"--");
+    match rest(input, dashes) {
+        [_, _, b'>', ..] => Ok(dashes + 3),
+        [_, _, _, ..] => Err(ScanFault::Byte(dashes + 2)),
+        _ => Err(ScanFault::End(input.len())),
+    }
 }
 
 // The end of the instruction that begins at the place.
@@ -90,54 +78,46 @@ fn instruction_end(input: &[u8], at: usize) -> Result<usize, ScanFault>
     requires { markup (drop at input.now) ≡ Instruction }
     ensures { MatchResult result (IsInstruction input.now at) (Told (InstructionFault input.now at)) }
 {
-    let close = pair_place(input, at + 2, b'?', b'>');
+    let close = pair_place(input, at + 2, b"?>");
     if close >= input.len() {
         return Err(ScanFault::End(input.len()));
     }
     Ok(close + 2)
 }
 
-// One step of the way: past something to skip, or a stop.
-enum Step {
-    Past(usize),
-    At(Stop),
-}
-
-// What stands at the place.
-fn skip_one(input: &[u8], at: usize, inside: bool) -> Result<Step, XmlFault>
-    requires { at ≤ length input.now }
+// What stands at the place: something to go on behind, or a stop.
+fn skip_one(input: &[u8], at: usize, inside: bool) -> Result<ControlFlow<Stop, usize>, XmlFault>
     ensures { MatchResult result (Steps input.now inside at) (Refused input.now inside at) }
 {
-    match which(&input[at..]) {
+    match which(rest(input, at)) {
         Markup::Text => {
             if inside || is_white(input[at]) {
-                Ok(Step::Past(at + 1))
+                Ok(ControlFlow::Continue(at + 1))
             } else {
-                Err(XmlFault::Scan(ScanFault::Byte(at)))
+                Err(ScanFault::Byte(at).into())
             }
         }
-        Markup::Comment => Ok(Step::Past(comment_end(input, at)?)),
-        Markup::Instruction => Ok(Step::Past(instruction_end(input, at)?)),
+        Markup::Comment => Ok(ControlFlow::Continue(comment_end(input, at)?)),
+        Markup::Instruction => Ok(ControlFlow::Continue(instruction_end(input, at)?)),
         Markup::Declaration => Err(XmlFault::NotComment(at)),
-        Markup::Cut => Err(XmlFault::Scan(ScanFault::End(input.len()))),
-        Markup::Stray => Err(XmlFault::Scan(ScanFault::Byte(at + 1))),
-        Markup::StartTag => Ok(Step::At(Stop::StartTag)),
-        Markup::EndTag => Ok(Step::At(Stop::EndTag)),
-        Markup::Nothing => Ok(Step::At(Stop::End)),
+        Markup::Cut => Err(ScanFault::End(input.len()).into()),
+        Markup::Stray => Err(ScanFault::Byte(at + 1).into()),
+        Markup::StartTag => Ok(ControlFlow::Break(Stop::StartTag)),
+        Markup::EndTag => Ok(ControlFlow::Break(Stop::EndTag)),
+        Markup::Nothing => Ok(ControlFlow::Break(Stop::End)),
     }
 }
 
 // Reads on to the next tag or the end, and tells which.
 pub fn skip(input: &[u8], place: &mut usize, inside: bool) -> Result<Stop, XmlFault>
-    requires { place.old ≤ length input.now }
-    ensures within { place.new ≤ length input.now }
+    ensures within { place.old ≤ length input.now → place.new ≤ length input.now }
     ensures passes { Passes input.now inside place.old place.new }
     ensures found { MatchResult result (λ s. stop_markup s ≡ markup (drop place.new input.now)) (Refused input.now inside place.new) }
 {
     loop {
         match skip_one(input, *place, inside)? {
-            Step::Past(next) => *place = next,
-            Step::At(stop) => return Ok(stop),
+            ControlFlow::Continue(next) => *place = next,
+            ControlFlow::Break(stop) => return Ok(stop),
         }
     }
 }

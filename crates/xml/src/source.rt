@@ -1,199 +1,35 @@
 // The reader as a source.
-ghost use Rattle.std.specs.Prelude.{◌≡◌, ℕ, ◌<◌, ◌≤◌, true, false, List, [], length, drop, Some, None, Ok, Err, Decides, MatchResult};
-ghost use Rattle.labels.specs.Spelling.{name_limit};
-ghost use Rattle.labels.specs.Names.{name_of};
+ghost use Rattle.std.specs.Prelude.{◌≡◌, ℕ, false, List, [], None};
 ghost use Rattle.sources.specs.Events.{ClosedFrom, answer, rest};
 ghost use Rattle.sources.specs.declared.event.Event.{Event};
-ghost use Rattle.xml.specs.Markup.{markup};
 ghost use Rattle.xml.specs.Reading.{Reads};
-ghost use Rattle.xml.specs.Documents.{Document, DocumentFrom};
-ghost use Rattle.xml.specs.Spans.{LastIs};
+ghost use Rattle.xml.specs.Documents.{Document};
 ghost use Rattle.xml.specs.Means.{xml_events, xml_ending, xml_bytes, begun_by};
-ghost use Rattle.xml.specs.Inner.{Hands, Comes, Opens, Closes};
-ghost use Rattle.xml.specs.declared.fault.Markup.TheVariants.{Nothing, StartTag, EndTag};
 
-use crate::fault::{ScanFault, Stop, XmlFault};
-use crate::reader::{LEVELS, Span, Xml};
-use crate::scan::{end_tag_end, name_end, start_tag};
-use crate::skip::skip;
+use crate::fault::XmlFault;
+use crate::reader::{Tags, Xml};
+use crate::tags::Tag;
+use arrayvec::ArrayVec;
 use labels::name::Name;
 use sources::event::Event;
 use sources::source::Source;
 
-// The label of an element's name.
-fn label(bytes: &[u8]) -> Name
-    requires { length bytes.now ≤ name_limit }
-    ensures { result ≡ name_of bytes.now }
-{
-    match Name::try_from(bytes) {
-        Ok(name) => name,
-        Err(_) => unreachable(),
-    }
-}
-
-// Whether the bytes are the same.
-fn same(a: &[u8], b: &[u8]) -> bool
-    ensures { Decides result (a.now ≡ b.now) }
-{
-    a == b
-}
-
 impl<'a> Xml<'a> {
-    // A reader that starts at the place.
-    fn at(input: &'a [u8], place: usize) -> Xml<'a>
-        requires { place ≤ length input.now }
-        ensures fresh { result.rooted ≡ false }
-        ensures reads { Reads input.now place [] false (xml_bytes result) (xml_ending result) }
-        ensures done { xml_ending result ≡ None → DocumentFrom input.now place (xml_bytes result) }
-        ensures right { (es : List (Event (List ℕ))) → DocumentFrom input.now place es → (xml_bytes result ≡ es) × (xml_ending result ≡ None) }
-    {
-        Xml {
-            input,
-            place,
-            depth: 0,
-            opened: [Span { start: 0, len: 0 }; LEVELS],
-            rooted: false,
-            closing: false,
-        }
-    }
-
     // A reader of the input.
     pub fn new(input: &'a [u8]) -> Xml<'a>
-        ensures fresh { result.rooted ≡ false }
+        ensures fresh { result.tags.rooted ≡ false }
         ensures reads { Reads input.now 0 [] false (xml_bytes result) (xml_ending result) }
         ensures done { xml_ending result ≡ None → Document input.now (xml_bytes result) }
         ensures right { (es : List (Event (List ℕ))) → Document input.now es → (xml_bytes result ≡ es) × (xml_ending result ≡ None) }
     {
-        Xml::at(input, 0)
-    }
-
-    // The start tag at the place: where its name ends, and where its `>` stands.
-    fn start_tag(&self) -> Result<(usize, usize), XmlFault>
-        requires tag { markup (drop self.now.place self.now.input.now) ≡ StartTag }
-        requires still { self.now.closing ≡ false }
-        ensures { MatchResult result (λ t. Opens self.now t.0 t.1) (λ f. Hands self.now self.now (Err f)) }
-    {
-        let at = self.place;
-        if self.depth == 0 && self.rooted {
-            return Err(XmlFault::Scan(ScanFault::Byte(at)));
-        }
-        if self.depth >= LEVELS {
-            return Err(XmlFault::Deep(at));
-        }
-        Ok(start_tag(self.input, at + 1)?)
-    }
-
-    // Opens the element of that start tag.
-    fn open_element(&mut self, name: usize, close: usize) -> Event<Name>
-        requires tag { Opens self.old name close }
-        requires still { self.old.closing ≡ false }
-        ensures { Hands self.old self.new (Ok (Some result)) }
-    {
-        let input = self.input;
-        let start = self.place + 1;
-        let label = label(&input[start..name]);
-        self.rooted = true;
-        self.place = close + 1;
-        if input[close - 1] == b'/' {
-            self.closing = true;
-            return Event::Open(label);
-        }
-        self.opened[self.depth] = Span {
-            start,
-            len: name - start,
-        };
-        self.depth += 1;
-        Event::Open(label)
-    }
-
-    // Closes an empty element.
-    fn close_empty(&mut self) -> Event<Name>
-        requires { self.old.closing ≡ true }
-        ensures { Hands self.old self.new (Ok (Some result)) }
-    {
-        self.closing = false;
-        Event::Close
-    }
-
-    // Goes through the start tag at the place.
-    fn enter(&mut self) -> Result<Option<Event<Name>>, XmlFault>
-        requires tag { markup (drop self.old.place self.old.input.now) ≡ StartTag }
-        requires still { self.old.closing ≡ false }
-        ensures { Hands self.old self.new result }
-    {
-        let (name, close) = self.start_tag()?;
-        Ok(Some(self.open_element(name, close)))
-    }
-
-    // Whether the name is the innermost open element's.
-    fn is_innermost(&self, name: &[u8]) -> bool
-        ensures none { self.now.depth ≡ 0 → result ≡ false }
-        ensures some { 0 < self.now.depth → Decides result (LastIs self.now.input.now self.now.opened self.now.depth name.now) }
-    {
-        if self.depth == 0 {
-            return false;
-        }
-        let Span { start, len } = self.opened[self.depth - 1];
-        same(name, &self.input[start..start + len])
-    }
-
-    // The end tag at the place: where it ends.
-    fn end_tag(&self) -> Result<usize, XmlFault>
-        requires tag { markup (drop self.now.place self.now.input.now) ≡ EndTag }
-        requires still { self.now.closing ≡ false }
-        ensures { MatchResult result (Closes self.now) (λ f. Hands self.now self.now (Err f)) }
-    {
-        let input = self.input;
-        let from = self.place + 2;
-        let name = name_end(input, from)?;
-        if !self.is_innermost(&input[from..name]) {
-            return Err(XmlFault::WrongName(from));
-        }
-        let close = end_tag_end(input, name)?;
-        Ok(close + 1)
-    }
-
-    // Closes the innermost element, whose end tag ends there.
-    fn close_element(&mut self, end: usize) -> Event<Name>
-        requires tag { Closes self.old end }
-        requires still { self.old.closing ≡ false }
-        ensures { Hands self.old self.new (Ok (Some result)) }
-    {
-        self.depth -= 1;
-        self.place = end;
-        Event::Close
-    }
-
-    // Goes through the end tag at the place.
-    fn leave(&mut self) -> Result<Option<Event<Name>>, XmlFault>
-        requires tag { markup (drop self.old.place self.old.input.now) ≡ EndTag }
-        requires still { self.old.closing ≡ false }
-        ensures { Hands self.old self.new result }
-    {
-        let end = self.end_tag()?;
-        Ok(Some(self.close_element(end)))
-    }
-
-    // Reads on to the next tag or the end, and tells which.
-    fn pass(&mut self) -> Result<Stop, XmlFault>
-        requires { self.old.closing ≡ false }
-        ensures { MatchResult result (Comes self.old self.new) (λ f. Hands self.old self.new (Err f)) }
-    {
-        let input = self.input;
-        let inside = self.depth > 0;
-        skip(input, &mut self.place, inside)
-    }
-
-    // What is answered at the end of the input.
-    fn finish(&self) -> Result<Option<Event<Name>>, XmlFault>
-        requires end { markup (drop self.now.place self.now.input.now) ≡ Nothing }
-        requires still { self.now.closing ≡ false }
-        ensures { Hands self.now self.now result }
-    {
-        if self.depth == 0 && self.rooted {
-            Ok(None)
-        } else {
-            Err(XmlFault::Scan(ScanFault::End(self.input.len())))
+        Xml {
+            tags: Tags {
+                input,
+                place: 0,
+                opened: ArrayVec::new(),
+                rooted: false,
+            },
+            closing: false,
         }
     }
 }
@@ -213,15 +49,20 @@ impl<'a> Source for Xml<'a> {
         ensures others { xml_events self.new ≡ rest (xml_events self.old) }
         ensures ending { xml_ending self.new ≡ xml_ending self.old }
         ensures nested { xml_ending self.old ≡ None → ClosedFrom 0 (xml_events self.old) }
-        ensures begun { self.new.rooted ≡ begun_by self.old.rooted result }
+        ensures begun { self.new.tags.rooted ≡ begun_by self.old.tags.rooted result }
     {
         if self.closing {
-            return Ok(Some(self.close_empty()));
+            self.closing = false;
+            return Ok(Some(Event::Close));
         }
-        match self.pass()? {
-            Stop::StartTag => self.enter(),
-            Stop::EndTag => self.leave(),
-            Stop::End => self.finish(),
+        match self.tags.next()? {
+            None => Ok(None),
+            Some(Tag::Open(label)) => Ok(Some(Event::Open(label))),
+            Some(Tag::Empty(label)) => {
+                self.closing = true;
+                Ok(Some(Event::Open(label)))
+            }
+            Some(Tag::Close) => Ok(Some(Event::Close)),
         }
     }
 }

@@ -14,14 +14,14 @@ returns-in_err-stop c =
     let p = err_from_is_err_and c.from_residual.result c.from_residual.ensures.1 in
     rw (p.1, p.2) (root_fails _ _ _ _ c.skip.ensures.passes (c.in_err-stop.ensures.found [] false refl))
 
-pub returns-in_err-end-in-StartTag : goal.returns-in_err-end-in-StartTag
-returns-in_err-end-in-StartTag c =
+pub returns-in_err-start_tag-in-StartTag : goal.returns-in_err-start_tag-in-StartTag
+returns-in_err-start_tag-in-StartTag c =
     let xs = c.args.input.now in
     let q = c.skip.new.place in
     let f = c.in_ok-stop.ensures.found in
-    let p = err_from_is_err_and c.from_residual-in_err-end-in-StartTag.result c.from_residual-in_err-end-in-StartTag.ensures.1 in
-    rw (p.1, p.2) (root_fails _ _ _ (Scan c.in_err-end-in-StartTag.field-0.0) c.skip.ensures.passes
-    (found_at xs q [] false _ StartTag _ c.in-StartTag.is f (start_fault root_room c.in_err-end-in-StartTag.ensures)))
+    let p = err_from_is_err_and c.from_residual-in_err-start_tag-in-StartTag.result c.from_residual-in_err-start_tag-in-StartTag.ensures.1 in
+    rw (p.1, p.2) (root_fails _ _ _ (Scan c.in_err-start_tag-in-StartTag.field-0.0) c.skip.ensures.passes
+    (found_at xs q [] false _ StartTag _ c.in-StartTag.is f (start_fault root_room c.in_err-start_tag-in-StartTag.ensures)))
 
 pub returns-in_err-name_end-in-EndTag : goal.returns-in_err-name_end-in-EndTag
 returns-in_err-name_end-in-EndTag c =
@@ -32,14 +32,14 @@ returns-in_err-name_end-in-EndTag c =
     rw (p.1, p.2) (root_fails _ _ _ (Scan c.in_err-name_end-in-EndTag.field-0.0) c.skip.ensures.passes
     (found_at xs q [] false _ EndTag _ c.in-EndTag.is f (end_name c.in_err-name_end-in-EndTag.ensures)))
 
-pub returns-in_ok-end-in-StartTag : goal.returns-in_ok-end-in-StartTag
-returns-in_ok-end-in-StartTag c =
+pub returns-in_ok-start_tag-in-StartTag : goal.returns-in_ok-start_tag-in-StartTag
+returns-in_ok-start_tag-in-StartTag c =
     let xs = c.args.input.now in
     let q = c.skip.new.place in
     let f = c.in_ok-stop.ensures.found in
-    let h = c.in_ok-end-in-StartTag.ensures in
-    root_named xs _ q _ _ _ c.skip.ensures.passes h.0.0.ends.late h.0.0.ends.within
-    (found_at xs q [] false _ StartTag _ c.in-StartTag.is f (start root_room (record { name = h.0; close = c.in_ok-end-in-StartTag.field-0-1; tag = h.1; ends = refl; slash = refl })))
+    let h = c.in_ok-start_tag-in-StartTag.ensures in
+    root_named xs _ q h.stop _ _ _ h.name c.skip.ensures.passes
+    (found_at xs q [] false _ StartTag _ c.in-StartTag.is f (start root_room (record { name = h.spelled; close = h.close; tag = h.rest; ends = h.ends; slash = h.slash })))
 
 pub returns-in_ok-name_end-in-EndTag : goal.returns-in_ok-name_end-in-EndTag
 returns-in_ok-name_end-in-EndTag c =
@@ -54,5 +54,5 @@ returns-in-End c =
     let xs = c.args.input.now in
     let q = c.skip.new.place in
     let f = c.in_ok-stop.ensures.found in
-    root_fails _ _ _ (Scan (End (length xs))) c.skip.ensures.passes
-    (found_at xs q [] false _ at_end _ c.in-End.is f (early (λ _ r. both_ways _ refl r)))
+    rw c.into.ensures (root_fails _ _ _ (Scan (End (length xs))) c.skip.ensures.passes
+    (found_at xs q [] false _ at_end _ c.in-End.is f (early (λ _ r. both_ways _ refl r))))

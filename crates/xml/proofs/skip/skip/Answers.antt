@@ -4,9 +4,9 @@ use Rattle.xml.specs.Inner.Passes.{here, on}
 use Rattle.xml.proofs.skip.skip.Goals as goal
 
 pub loop-next-init : goal.loop-next-init
-loop-next-init c = (c.requires, here)
+loop-next-init c = (λ h. h, here)
 
 pub loop-next-preserved : goal.loop-next-preserved
 loop-next-preserved c =
-    let h = subst (Steps c.args.input.now c.args.inside c.loop-next.place) c.in-Past.is c.in_ok-next.ensures in
-    (h.2, on c.loop-next.invariant.1 h.0)
+    let h = subst (Steps c.args.input.now c.args.inside c.loop-next.place) c.in-Continue.is c.in_ok-next.ensures in
+    (λ _. h.2, on c.loop-next.invariant.1 h.0)

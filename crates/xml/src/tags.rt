@@ -1,0 +1,122 @@
+// Reading tag by tag.
+ghost use Rattle.std.specs.Prelude.{◌≡◌, ◌≤◌, length, drop, Decides, MatchResult};
+ghost use Rattle.labels.specs.Names.{name_of};
+ghost use Rattle.labels.specs.Spelling.{name_limit};
+ghost use Rattle.xml.specs.Markup.{markup};
+ghost use Rattle.xml.specs.Reading.{Innermost, Room};
+ghost use Rattle.xml.specs.Means.{tags_names};
+ghost use Rattle.xml.specs.Inner.{NoRoom, Gives, Refuses, Comes};
+ghost use Rattle.xml.specs.declared.fault.Markup.TheVariants.{Nothing, StartTag, EndTag};
+
+use crate::fault::{ScanFault, Stop, XmlFault};
+use crate::reader::Tags;
+use crate::scan::{end_tag_end, name_end, start_tag};
+use crate::skip::skip;
+use labels::name::Name;
+
+// What a tag does: it opens an element with the label, which may be empty, or closes the innermost.
+#[derive(Clone, Copy)]
+pub(crate) enum Tag {
+    Open(Name),
+    Empty(Name),
+    Close,
+}
+
+// The label of an element's name.
+fn label(bytes: &[u8]) -> Name
+    requires { length bytes.now ≤ name_limit }
+    ensures { result ≡ name_of bytes.now }
+{
+    Name::try_from(bytes).unwrap()
+}
+
+impl<'a> Tags<'a> {
+    // Whether the name is the innermost open element's.
+    fn is_innermost(&self, name: &[u8]) -> bool
+        ensures { Decides result (Innermost (tags_names self.now) name.now) }
+    {
+        match self.opened.last() {
+            Some(innermost) => *innermost == name,
+            None => false,
+        }
+    }
+
+    // Whether one more element may begin at the place.
+    fn room(&self) -> Result<(), XmlFault>
+        ensures { MatchResult result (λ _. Room (tags_names self.now) self.now.rooted) (NoRoom self.now) }
+    {
+        if self.opened.is_empty() && self.rooted {
+            return Err(ScanFault::Byte(self.place).into());
+        }
+        if self.opened.is_full() {
+            return Err(XmlFault::Deep(self.place));
+        }
+        Ok(())
+    }
+
+    // Goes through the start tag at the place.
+    fn enter(&mut self) -> Result<Option<Tag>, XmlFault>
+        requires { markup (drop self.old.place self.old.input.now) ≡ StartTag }
+        ensures { MatchResult result (Gives self.old self.new) (Refuses self.old self.new) }
+    {
+        self.room()?;
+        let tag = start_tag(self.input, self.place + 1)?;
+        let label = label(tag.name);
+        self.rooted = true;
+        self.place = tag.end;
+        if tag.empty {
+            return Ok(Some(Tag::Empty(label)));
+        }
+        self.opened.push(tag.name);
+        Ok(Some(Tag::Open(label)))
+    }
+
+    // Goes through the end tag at the place.
+    fn leave(&mut self) -> Result<Option<Tag>, XmlFault>
+        requires { markup (drop self.old.place self.old.input.now) ≡ EndTag }
+        ensures { MatchResult result (Gives self.old self.new) (Refuses self.old self.new) }
+    {
+        let input = self.input;
+        let from = self.place + 2;
+        let name = name_end(input, from)?;
+        if !self.is_innermost(&input[from..name]) {
+            return Err(XmlFault::WrongName(from));
+        }
+        let close = end_tag_end(input, name)?;
+        self.opened.pop();
+        self.place = close + 1;
+        Ok(Some(Tag::Close))
+    }
+
+    // Reads on to the next tag or the end, and tells which.
+    fn pass(&mut self) -> Result<Stop, XmlFault>
+        ensures { MatchResult result (Comes self.old self.new) (Refuses self.old self.new) }
+    {
+        let input = self.input;
+        let inside = !self.opened.is_empty();
+        skip(input, &mut self.place, inside)
+    }
+
+    // What is answered at the end of the input.
+    fn finish(&self) -> Result<Option<Tag>, XmlFault>
+        requires { markup (drop self.now.place self.now.input.now) ≡ Nothing }
+        ensures { MatchResult result (Gives self.now self.now) (Refuses self.now self.now) }
+    {
+        if self.opened.is_empty() && self.rooted {
+            Ok(None)
+        } else {
+            Err(ScanFault::End(self.input.len()).into())
+        }
+    }
+
+    // Goes through the next tag; what it asks of the place, each of the three has from `pass`. With none left it answers None, or the fault.
+    pub(crate) fn next(&mut self) -> Result<Option<Tag>, XmlFault>
+        ensures { MatchResult result (Gives self.old self.new) (Refuses self.old self.new) }
+    {
+        match self.pass()? {
+            Stop::StartTag => self.enter(),
+            Stop::EndTag => self.leave(),
+            Stop::End => self.finish(),
+        }
+    }
+}
