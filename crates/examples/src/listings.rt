@@ -9,11 +9,7 @@ fn show_listing(rt: &impl Print, listing: &str) -> io::Result<()> {
     let (count, fault) = drained(&mut source, EVENTS);
     match fault {
         None => println!(rt; "{listing}: {count} events"),
-        Some(fault) => {
-            let number = fault.number();
-            let place = fault.place();
-            println!(rt; "{listing}: {count} events, refused {number} at {place}")
-        }
+        Some(fault) => println!(rt; "{listing}: {count} events, refused {fault}"),
     }
 }
 

@@ -1,22 +1,18 @@
 // Rule texts.
 use labels::name::Name;
-use rules::rule::Rule;
+use rules::rule::{RULE_NODES, Rule};
 use std::io;
 
 // Reads the text, and prints how many rule nodes it gives, or its refusal.
 fn show_text(rt: &impl Print, text: &str) -> io::Result<()> {
     let mut rule = Rule::new();
-    let mut names = [Name::empty(); 64];
+    let mut names = [Name::empty(); RULE_NODES];
     match rule.read_text(text.as_bytes(), &mut names) {
         Ok(()) => {
             let count = rule.nodes().len();
             println!(rt; "{text}: {count} rule nodes")
         }
-        Err(refusal) => {
-            let number = refusal.number();
-            let place = refusal.place();
-            println!(rt; "{text}: refused {number} at {place}")
-        }
+        Err(refusal) => println!(rt; "{text}: refused {refusal}"),
     }
 }
 

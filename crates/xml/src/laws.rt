@@ -2,22 +2,19 @@
 ghost use Rattle.xml.specs.Laws.{SomeMeaning, OneMeaning, DoneDocuments};
 
 // Each listing has a meaning.
-pub fn all_have_meaning() -> u8
+pub fn all_have_meaning()
     ensures { SomeMeaning }
 {
-    0
 }
 
 // It has at most one.
-pub fn means_one_thing() -> u8
+pub fn means_one_thing()
     ensures { OneMeaning }
 {
-    0
 }
 
 // A listing is done exactly when it is a document, and then it has the document's events.
-pub fn documents_are_done() -> u8
+pub fn documents_are_done()
     ensures { DoneDocuments }
 {
-    0
 }
