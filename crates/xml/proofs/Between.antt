@@ -17,10 +17,6 @@ use Rattle.xml.specs.declared.fault.XmlFault.TheVariants.{Scan, NotComment}
 pub found : (xs : List ℕ) (p : ℕ) (names : List (List ℕ)) (rooted : Bool) (k : Markup) (s : Found) → k ≡ markup (drop p xs) → Finds xs p names rooted k s → FindsAt xs p names rooted s
 found xs p names rooted k s e d = subst (λ j. Finds xs p names rooted j s) e d
 
--- what the slice from a place on begins with
-pub begins : (xs bs : List ℕ) (p : ℕ) (k : Markup) → k ≡ markup bs → bs ≡ drop p xs → k ≡ markup (drop p xs)
-begins xs bs p k e f = e ∙ ap markup f
-
 -- what is found where the reader stops
 pub found_at : (xs : List ℕ) (p : ℕ) (names : List (List ℕ)) (rooted : Bool) (j k : Stop) (s : Found) → j ≡ k → stop_markup j ≡ markup (drop p xs) → Finds xs p names rooted (stop_markup k) s → FindsAt xs p names rooted s
 found_at xs p names rooted j k s e f d = found xs p names rooted (stop_markup k) s (sym (ap stop_markup e) ∙ f) d

@@ -31,13 +31,13 @@ fn behind_bracket(rest: &[u8]) -> Markup
     }
 }
 
-// The next bytes tell which markup begins.
-fn which(bytes: &[u8]) -> Markup
-    ensures { result ≡ markup bytes.now }
+// Which markup begins at the place.
+fn which(input: &[u8], at: usize) -> Markup
+    ensures { result ≡ markup (drop at input.now) }
 {
-    match bytes {
+    match rest(input, at) {
         [] => Markup::Nothing,
-        [b'<', rest @ ..] => behind_bracket(rest),
+        [b'<', behind @ ..] => behind_bracket(behind),
         [_, ..] => Markup::Text,
     }
 }
@@ -89,7 +89,7 @@ fn instruction_end(input: &[u8], at: usize) -> Result<usize, ScanFault>
 fn skip_one(input: &[u8], at: usize, inside: bool) -> Result<ControlFlow<Stop, usize>, XmlFault>
     ensures { MatchResult result (Steps input.now inside at) (Refused input.now inside at) }
 {
-    match which(rest(input, at)) {
+    match which(input, at) {
         Markup::Text => {
             if inside || is_white(input[at]) {
                 Ok(ControlFlow::Continue(at + 1))

@@ -12,6 +12,6 @@ after_bracket (b ∷ bs) e = ap (λ t. cond t (behind bs) Text) (sym (eq-eqb b 6
 
 pub returns-in-60 : goal.returns-in-60
 returns-in-60 c =
-    let bs : List ℕ = c.args.bytes.now in
-    let first : get_or c.args.bytes.now 0 0 ≡ 60 = search rules in
-    c.behind_bracket.ensures ∙ ap behind (take_rest bs 1) ∙ after_bracket bs first
+    let bs : List ℕ = c.rest.result.now in
+    let first : get_or c.rest.result.now 0 0 ≡ 60 = search rules in
+    c.behind_bracket.ensures ∙ ap behind (take_rest bs 1) ∙ after_bracket bs first ∙ ap markup c.rest.ensures
