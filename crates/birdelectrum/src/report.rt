@@ -13,7 +13,7 @@ use sources::event::Event;
 use sources::source::Source;
 use xml::reader::Xml;
 
-// How many numbers are reported, and how the listing ended.
+// How many numbers are reported, and how the listing ended. A count beside the caller's list, since takes fill a list that stands.
 #[derive(Clone, Copy, PartialEq, Eq, Debug)]
 pub struct Report {
     pub reported: usize,
@@ -102,6 +102,7 @@ fn feed(
 }
 
 // The numbers to report stand at the front of the list.
+#[tactic(auto, using(crate::proofs::ReportLaws::bad_reported))]
 pub fn report_on(input: &[u8], numbers: &mut [u32]) -> Report
     ensures fits { result.reported ≤ length numbers.old }
     ensures reports { Reports input.now result }

@@ -2,7 +2,8 @@
 ghost use Rattle.std.specs.Prelude.{◌-◌, ◌^◌, ◌<◌, ◌≤◌, min};
 ghost use Rattle.labels.specs.Spelling.{name_limit};
 
-// A name of 0 to 32 bytes, eight bytes to a word: each word is the number that its bytes write in base 256.
+// A name of 0 to 32 bytes, eight bytes to a word: each word is the number that its bytes write in base 256. Words and a length, with
+// no array, since events carry names by value.
 #[derive(Clone, Copy, PartialEq, Eq)]
 pub struct Name {
     pub(crate) len: usize,

@@ -5,7 +5,8 @@ ghost use Rattle.rules.specs.Refusals.{number, place, printed_text, record_numbe
 use std::error::Error;
 use std::fmt;
 
-// Why a rule text is refused, with the place.
+// Why a rule text is refused, with the place. Each kind of refusal has numbers and values of its own, and nothing is generic over
+// kinds, so no trait stands over `number` and `place`.
 #[derive(Clone, Copy, PartialEq, Eq, Debug)]
 pub enum TextRefusal {
     ShortList,

@@ -20,7 +20,8 @@ pub struct Level {
     pub number: u32,
 }
 
-// The open nodes, outermost first, and the numbers that wait, in a ring with the oldest at `head`.
+// The open nodes, outermost first, and the numbers that wait, in a ring with the oldest at `head`. Plain arrays with counts: a run
+// allocates nothing, and its state is a value that is copied.
 #[derive(Clone, Copy)]
 pub struct Levels {
     pub open: [Level; DEPTH],
