@@ -87,7 +87,7 @@ handed (Some (opens l)) = Open l ∷ []
 handed (Some (empties l)) = Open l ∷ Close ∷ []
 handed (Some closes) = Close ∷ []
 
--- whether a tag is behind the reader then
+-- whether the root's start tag is past then
 abbrev pub passed : Bool → Option Tag → Bool
 passed before None = before
 passed before (Some t) = true

@@ -64,6 +64,9 @@ reaches xs p k e h =
     let a : least k ≤ length (drop p xs) = subst (λ j. least j ≤ length (drop p xs)) e (markup_long (drop p xs)) in
     omega (arith, length-drop p xs)
 
+pub comment_long : (xs : List ℕ) (p : ℕ) → markup (drop p xs) ≡ Comment → p + 4 ≤ length xs
+comment_long xs p e = reaches xs p Comment e (omega arith)
+
 -- where the two bytes stand
 pub pair_here : (xs : List ℕ) (a b i : ℕ) → apart xs a b i ≡ false → (byte xs i ≡ a) × (byte xs (i + 1) ≡ b)
 pair_here xs a b i e =

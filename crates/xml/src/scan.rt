@@ -88,6 +88,7 @@ pub fn start_tag(input: &[u8], at: usize) -> Result<Opening<'_>, ScanFault>
 }
 
 // The place of the `>` that ends an end tag, whose name ends at `at`.
+#[tactic(auto, using(crate::proofs::Ends::white_closes))]
 pub fn end_tag_end(input: &[u8], at: usize) -> Result<usize, ScanFault>
     ensures { at ≤ length input.now → MatchResult result (EndEnds input.now at) (Told (EndFault input.now at)) }
 {

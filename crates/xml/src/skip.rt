@@ -2,7 +2,7 @@
 ghost use Rattle.std.specs.Prelude.{◌≡◌, ◌+◌, ◌<◌, ◌≤◌, ◌&&◌, length, drop, MatchResult, ◌==◌, slice_index, not};
 ghost use Rattle.labels.specs.Spelling.{Longest};
 ghost use Rattle.xml.specs.Bytes.{apart};
-ghost use Rattle.xml.specs.Markup.{markup, behind, IsComment, IsInstruction, CommentFault, InstructionFault};
+ghost use Rattle.xml.specs.Markup.{markup, behind, CommentEnds, IsComment, IsInstruction, CommentFault, InstructionFault};
 ghost use Rattle.xml.specs.Inner.{Told, stop_markup, Steps, Refused, Passes};
 ghost use Rattle.xml.specs.declared.fault.Markup.TheVariants.{Comment, Instruction};
 
@@ -60,17 +60,25 @@ fn pair_place(input: &[u8], from: usize, pair: &[u8; 2]) -> usize
         .unwrap_or(input.len())
 }
 
-// The end of the comment that begins at the place.
-fn comment_end(input: &[u8], at: usize) -> Result<usize, ScanFault>
-    requires { markup (drop at input.now) ≡ Comment }
-    ensures { MatchResult result (IsComment input.now at) (Told (CommentFault input.now (at + 4))) }
+// The end of a comment whose text begins at the place.
+fn dashes_end(input: &[u8], from: usize) -> Result<usize, ScanFault>
+    ensures { from ≤ length input.now → MatchResult result (CommentEnds input.now from) (Told (CommentFault input.now from)) }
 {
-    let dashes = pair_place(input, at + 4, b"--");
+    let dashes = pair_place(input, from, b"--");
     match rest(input, dashes) {
         [_, _, b'>', ..] => Ok(dashes + 3),
         [_, _, _, ..] => Err(ScanFault::Byte(dashes + 2)),
         _ => Err(ScanFault::End(input.len())),
     }
+}
+
+// The end of the comment that begins at the place.
+#[tactic(auto, using(crate::specs::Shapes::comment_long))]
+fn comment_end(input: &[u8], at: usize) -> Result<usize, ScanFault>
+    requires { markup (drop at input.now) ≡ Comment }
+    ensures { MatchResult result (IsComment input.now at) (Told (CommentFault input.now (at + 4))) }
+{
+    dashes_end(input, at + 4)
 }
 
 // The end of the instruction that begins at the place.

@@ -9,7 +9,6 @@ ghost use Rattle.xml.specs.Means.{xml_events, xml_ending, xml_bytes, begun_by};
 use crate::fault::XmlFault;
 use crate::reader::{Tags, Xml};
 use crate::tags::Tag;
-use arrayvec::ArrayVec;
 use labels::name::Name;
 use sources::event::Event;
 use sources::source::Source;
@@ -23,12 +22,7 @@ impl<'a> Xml<'a> {
         ensures right { (es : List (Event (List ℕ))) → Document input.now es → (xml_bytes result ≡ es) × (xml_ending result ≡ None) }
     {
         Xml {
-            tags: Tags {
-                input,
-                place: 0,
-                opened: ArrayVec::new(),
-                rooted: false,
-            },
+            tags: Tags::new(input),
             closing: false,
         }
     }

@@ -1,10 +1,10 @@
 // Reading tag by tag.
-ghost use Rattle.std.specs.Prelude.{◌≡◌, ◌≤◌, length, drop, Decides, MatchResult};
+ghost use Rattle.std.specs.Prelude.{◌≡◌, ◌≤◌, false, [], length, drop, Decides, MatchResult};
 ghost use Rattle.labels.specs.Names.{name_of};
 ghost use Rattle.labels.specs.Spelling.{name_limit};
 ghost use Rattle.xml.specs.Markup.{markup};
-ghost use Rattle.xml.specs.Reading.{Innermost, Room};
-ghost use Rattle.xml.specs.Means.{tags_names};
+ghost use Rattle.xml.specs.Reading.{Innermost, Reads, Room};
+ghost use Rattle.xml.specs.Means.{tags_names, tags_meaning};
 ghost use Rattle.xml.specs.Inner.{NoRoom, Gives, Refuses, Comes};
 ghost use Rattle.xml.specs.declared.fault.Markup.TheVariants.{Nothing, StartTag, EndTag};
 
@@ -12,6 +12,7 @@ use crate::fault::{ScanFault, Stop, XmlFault};
 use crate::reader::Tags;
 use crate::scan::{end_tag_end, name_end, start_tag};
 use crate::skip::skip;
+use arrayvec::ArrayVec;
 use labels::name::Name;
 
 // What a tag does: it opens an element with the label, which may be empty, or closes the innermost.
@@ -31,7 +32,21 @@ fn label(bytes: &[u8]) -> Name
 }
 
 impl<'a> Tags<'a> {
+    // What reads from the start of the input.
+    pub(crate) fn new(input: &'a [u8]) -> Tags<'a>
+        ensures fresh { result.rooted ≡ false }
+        ensures reads { Reads input.now 0 [] false (tags_meaning result).events (tags_meaning result).ending }
+    {
+        Tags {
+            input,
+            place: 0,
+            opened: ArrayVec::new(),
+            rooted: false,
+        }
+    }
+
     // Whether the name is the innermost open element's.
+    #[tactic(auto, using(crate::proofs::Steps::last_innermost))]
     fn is_innermost(&self, name: &[u8]) -> bool
         ensures { Decides result (Innermost (tags_names self.now) name.now) }
     {
