@@ -82,23 +82,25 @@ fn step(
     }
 }
 
-// Feeds the listing to a run of the rule, and counts the numbers reported.
+// Feeds the listing to a run of the rule: how many numbers are reported, and how the listing ends.
 fn feed(
     rule: &Rule,
     names: &[Name],
     listing: &[u8],
     numbers: &mut [u32],
-    reported: &mut usize,
-) -> Result<(), Stop>
-    requires { reported.old ≤ length numbers.old }
-    ensures { reported.new ≤ length numbers.old }
+) -> (usize, Result<(), Stop>)
+    ensures { result.0 ≤ length numbers.old }
 {
     let mut source = Xml::new(listing);
     let mut run = Run::new(rule);
-    'feed: while let Some(count) = step(&mut run, names, &mut source, &mut numbers[*reported..])? {
-        *reported += count;
+    let mut reported = 0;
+    'feed: loop {
+        match step(&mut run, names, &mut source, &mut numbers[reported..]) {
+            Ok(Some(count)) => reported += count,
+            Ok(None) => return (reported, Ok(())),
+            Err(stop) => return (reported, Err(stop)),
+        }
     }
-    Ok(())
 }
 
 // The numbers to report stand at the front of the list.
@@ -107,21 +109,19 @@ pub fn report_on(input: &[u8], numbers: &mut [u32]) -> Report
     ensures fits { result.reported ≤ length numbers.old }
     ensures reports { Reports input.now result }
 {
-    let mut reported = 0;
-    let verdict = match read_input(input) {
-        Err(refusal) => Err(refusal),
+    match read_input(input) {
+        Err(refusal) => Report {
+            reported: 0,
+            verdict: Err(refusal),
+        },
         Ok(selection) => {
             let names = &selection.names[..selection.rule.nodes().len()];
             let length = selection.listing.len();
-            feed(
-                &selection.rule,
-                names,
-                selection.listing,
-                numbers,
-                &mut reported,
-            )
-            .map_err(|stop| Refusal::Listing { stop, length })
+            let (reported, ended) = feed(&selection.rule, names, selection.listing, numbers);
+            Report {
+                reported,
+                verdict: ended.map_err(|stop| Refusal::Listing { stop, length }),
+            }
         }
-    };
-    Report { reported, verdict }
+    }
 }

@@ -58,7 +58,7 @@ fn looks(rt: HostRuntime) -> Result<(), Fail> {
     let Event::Open(label) = event else {
         return Err(Fail::new("no opening"));
     };
-    assert!(rt; label == Name::try_from(b"ab")?);
+    assert!(rt; label == Name::try_from(b"ab".as_slice())?);
     assert_eq!(rt; source.look_ahead(), Err(LookFault::Begun));
     Ok(())
 }

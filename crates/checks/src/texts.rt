@@ -99,7 +99,7 @@ fn brackets(rt: HostRuntime) {
 // The names that reading leaves in a list of names `old`, by their first bytes.
 fn first_bytes(text: &[u8]) -> Result<[Option<u8>; 4], NameRefusal> {
     let mut rule = Rule::new();
-    let mut names = [Name::try_from(b"old")?; 64];
+    let mut names = [Name::try_from(b"old".as_slice())?; 64];
     let _ = rule.read_text(text, &mut names);
     Ok([
         names[0].byte(0),

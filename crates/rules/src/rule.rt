@@ -7,7 +7,8 @@ use crate::node::RuleNode;
 // The rule nodes that a rule has at most.
 pub const RULE_NODES: usize = 64;
 
-// A rule: 1 to 64 rule nodes. Node 0 is the root, and each parent is numbered below its child.
+// A rule: 1 to 64 rule nodes. Node 0 is the root, and each parent is numbered below its child. The labels of its tests stand in a list
+// of their own, by the numbers of the rule nodes, so that a rule serves every kind of labels.
 // An array with a count, since a rule is copied and an `ArrayVec` is not.
 #[derive(Clone, Copy)]
 pub struct Rule {
