@@ -1,10 +1,11 @@
 // Why an input is refused.
 ghost use Rattle.std.specs.Prelude.{◌≡◌, Some};
-ghost use Rattle.birdelectrum.specs.Refusals.{number, place, refusal_text};
+ghost use Rattle.birdelectrum.specs.Refusals.{Ends, number, place, refusal_text};
 ghost use Rattle.birdelectrum.specs.declared.refusal.Refusal.{Refusal};
 ghost use Rattle.birdelectrum.specs.declared.refusal.Stop.{Stop};
 
 use rules::refusal::TextRefusal;
+use std::error::Error;
 use std::fmt;
 use xml::fault::XmlFault;
 
@@ -34,12 +35,17 @@ impl From<runs::refusal::Refusal> for Stop {
     }
 }
 
-// Why an input is refused: it is too long, or its rule text or its listing of so many bytes is at fault.
+// Why an input is refused: it is too long, its rule text or its listing is at fault, or the run refuses an event of the listing of so
+// many bytes. A run refuses no event of a listing that fits the input.
 #[derive(Clone, Copy, PartialEq, Eq, Debug)]
 pub enum Refusal {
     Input,
     Rule(TextRefusal),
-    Listing { stop: Stop, length: usize },
+    Listing(XmlFault),
+    Run {
+        refusal: runs::refusal::Refusal,
+        length: usize,
+    },
 }
 
 impl From<TextRefusal> for Refusal {
@@ -51,30 +57,36 @@ impl From<TextRefusal> for Refusal {
 }
 
 impl Refusal {
+    // Why a listing of so many bytes ended.
+    pub fn of_listing(stop: Stop, length: usize) -> Refusal
+        ensures { Ends stop length result }
+    {
+        match stop {
+            Stop::Fault(fault) => Refusal::Listing(fault),
+            Stop::Refused(refusal) => Refusal::Run { refusal, length },
+        }
+    }
+
     pub fn number(&self) -> u32
         ensures { result ≡ number self.now }
     {
         match self {
             Refusal::Input => 50,
             Refusal::Rule(refusal) => refusal.number(),
-            Refusal::Listing { stop, length: _ } => match stop {
-                Stop::Fault(fault) => fault.number(),
-                Stop::Refused(refusal) => refusal.number(),
-            },
+            Refusal::Listing(fault) => fault.number(),
+            Refusal::Run { refusal, length: _ } => refusal.number(),
         }
     }
 
-    // The place in the input, the rule text or the listing. A run refuses no event of a listing that fits the input.
+    // The place in the input, the rule text or the listing; of a run's refusal the end of the listing.
     pub fn place(&self) -> usize
         ensures { result ≡ place self.now }
     {
         match self {
             Refusal::Input => INPUT,
             Refusal::Rule(refusal) => refusal.place(),
-            Refusal::Listing { stop, length } => match stop {
-                Stop::Fault(fault) => fault.place(),
-                Stop::Refused(_) => *length,
-            },
+            Refusal::Listing(fault) => fault.place(),
+            Refusal::Run { refusal: _, length } => *length,
         }
     }
 }
@@ -86,3 +98,5 @@ impl fmt::Display for Refusal {
         write!(f, "{} at {}", self.number(), self.place())
     }
 }
+
+impl Error for Refusal {}

@@ -13,7 +13,8 @@ use sources::event::Event;
 use sources::source::Source;
 use xml::reader::Xml;
 
-// How many numbers are reported, and how the listing ended. A count beside the caller's list, since takes fill a list that stands.
+// How many numbers are reported, and how the listing ended. A count beside the caller's list, since `Run::take` writes into a list that
+// the caller lends.
 #[derive(Clone, Copy, PartialEq, Eq, Debug)]
 pub struct Report {
     pub reported: usize,
@@ -30,7 +31,8 @@ fn line_end(input: &[u8]) -> usize
         .unwrap_or(input.len())
 }
 
-// The rule in the first line of an input, with the names of its rule nodes, and the listing behind that line.
+// The rule in the first line of an input, with the names of its rule nodes, and the listing behind that line. The names are a list that
+// reading a rule text fills, which asks for room for the most rule nodes.
 #[derive(Drop)]
 struct Selection<'a> {
     rule: Rule,
@@ -83,15 +85,12 @@ fn step(
 }
 
 // Feeds the listing to a run of the rule: how many numbers are reported, and how the listing ends.
-fn feed(
-    rule: &Rule,
-    names: &[Name],
-    listing: &[u8],
-    numbers: &mut [u32],
-) -> (usize, Result<(), Stop>)
+fn feed(selection: &Selection, numbers: &mut [u32]) -> (usize, Result<(), Stop>)
     ensures { result.0 ≤ length numbers.old }
 {
-    let mut source = Xml::new(listing);
+    let rule = &selection.rule;
+    let names = &selection.names[..rule.nodes().len()];
+    let mut source = Xml::new(selection.listing);
     let mut run = Run::new(rule);
     let mut reported = 0;
     'feed: loop {
@@ -115,12 +114,11 @@ pub fn report_on(input: &[u8], numbers: &mut [u32]) -> Report
             verdict: Err(refusal),
         },
         Ok(selection) => {
-            let names = &selection.names[..selection.rule.nodes().len()];
             let length = selection.listing.len();
-            let (reported, ended) = feed(&selection.rule, names, selection.listing, numbers);
+            let (reported, ended) = feed(&selection, numbers);
             Report {
                 reported,
-                verdict: ended.map_err(|stop| Refusal::Listing { stop, length }),
+                verdict: ended.map_err(|stop| Refusal::of_listing(stop, length)),
             }
         }
     }

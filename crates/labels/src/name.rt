@@ -3,7 +3,7 @@ ghost use Rattle.std.specs.Prelude.{◌-◌, ◌^◌, ◌<◌, ◌≤◌, min};
 ghost use Rattle.labels.specs.Spelling.{name_limit};
 
 // A name of 0 to 32 bytes, eight bytes to a word: each word is the number that its bytes write in base 256. Words and a length, with
-// no array, since events carry names by value.
+// no array, as the project lays down for what an event carries.
 #[derive(Clone, Copy, PartialEq, Eq)]
 pub struct Name {
     pub(crate) len: usize,

@@ -1,4 +1,5 @@
-// How names are spelled in rule texts and in listings.
+// How names are spelled in rule texts and in listings. Bytes and a place go in and a place comes out: refusals tell places, so a cursor
+// over both would be taken apart and made again.
 ghost use Rattle.std.specs.Prelude.{◌≡◌, ◌<◌, ◌≤◌, length, MatchResult};
 ghost use Rattle.labels.specs.Spelling.{white, starts, inside, byte, Longest, LongestBy, Spelled};
 ghost use Rattle.labels.specs.Ends.{Unended};
@@ -28,7 +29,7 @@ pub fn continues_name(b: u8) -> bool
 }
 
 // The first place from `from` on whose byte does not pass, or the length.
-fn run_end<F: Fn(u8) -> bool>(bytes: &[u8], from: usize, passes: F) -> usize
+pub fn run_end<F: Fn(u8) -> bool>(bytes: &[u8], from: usize, passes: F) -> usize
     requires { F.IsAlwaysCallable passes }
     ensures inside { from ≤ length bytes.now → LongestBy (F.post passes) bytes.now from result }
     ensures outside { length bytes.now < from → result ≡ from }

@@ -1,4 +1,4 @@
-// The tokens of a rule text.
+// The tokens of a rule text. Text and place go in, since tokens and refusals tell places: a cursor over both would be no plainer.
 ghost use Rattle.std.specs.Prelude.{◌≡◌, ◌<◌, ◌≤◌, false, length, MatchOption, slice_index};
 ghost use Rattle.labels.specs.Spelling.{white, starts, byte, Named};
 ghost use Rattle.rules.specs.Machine.{Next};

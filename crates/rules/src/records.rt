@@ -76,7 +76,7 @@ fn rule_from(bytes: &[u8]) -> Result<Rule, RecordRefusal>
         return Err(RecordRefusal::Size);
     }
     let mut nodes = [RuleNode::ANY; RULE_NODES];
-    // By index: of what a zip over `iter_mut` writes, no proof knows anything.
+    // By index, for the reason given at `rule_of` of text.rt.
     for (number, record) in records.iter().enumerate() {
         nodes[number] = node_of(number, record).ok_or(RecordRefusal::Bad(number))?;
     }

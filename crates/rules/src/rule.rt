@@ -9,7 +9,7 @@ pub const RULE_NODES: usize = 64;
 
 // A rule: 1 to 64 rule nodes. Node 0 is the root, and each parent is numbered below its child. The labels of its tests stand in a list
 // of their own, by the numbers of the rule nodes, so that a rule serves every kind of labels.
-// An array with a count, since a rule is copied and an `ArrayVec` is not.
+// An array with a count, since a rule is `Copy` for its callers, and an `ArrayVec` is not.
 #[derive(Clone, Copy)]
 pub struct Rule {
     pub(crate) nodes: [RuleNode; RULE_NODES],

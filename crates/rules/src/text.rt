@@ -38,7 +38,7 @@ fn rule_of(nodes: &[ParsedNode]) -> Rule
     ensures { rule_nodes result ≡ rule_nodes_of nodes.now }
 {
     let mut made = [RuleNode::ANY; RULE_NODES];
-    // By index: of what a zip over `iter_mut` writes, no proof knows anything.
+    // By index: a zip with `iter_mut` was tried, and its proof did not close.
     for (i, node) in nodes.iter().enumerate() {
         made[i] = RuleNode::from(*node);
     }
@@ -54,7 +54,7 @@ fn write_names<N: NameLabel>(text: &[u8], nodes: &[ParsedNode], names: &mut [N])
     requires lie { AllByRecursion (Lies text.now) nodes.now }
     ensures { NamesIn N.spelled text.now nodes.now names.old names.new }
 {
-    // By index, as in `rule_of`.
+    // By index, for the reason given in `rule_of`.
     for (i, node) in nodes.iter().enumerate() {
         let test = node.test;
         if test.kind == Kind::Name {

@@ -10,7 +10,8 @@ pub enum Call<L> {
     Take(usize),
 }
 
-// What a call answers: the new node's number, whether the closed node is selected, or how many numbers were moved.
+// What a call answers: the new node's number, whether the closed node is selected, or how many numbers were moved. A refusal is one of
+// the answers, and no `Err` round them, since the reference model tells one answer for each call.
 #[derive(Clone, Copy, PartialEq, Eq, Debug)]
 pub enum Answer {
     Opened(u32),

@@ -20,8 +20,8 @@ pub struct Level {
     pub number: u32,
 }
 
-// The open nodes, outermost first, and the numbers that wait, in a ring with the oldest at `head`. Plain arrays with counts: a run
-// allocates nothing, and its state is a value that is copied.
+// The open nodes, outermost first, and the numbers that wait, in a ring with the oldest at `head`. Plain arrays with counts, as
+// the project lays down for a run's state.
 #[derive(Clone, Copy)]
 pub struct Levels {
     pub open: [Level; DEPTH],

@@ -5,7 +5,7 @@ ghost use Rattle.runs.specs.Bits.{Has};
 use std::marker::Model;
 
 // A set of the numbers 0 to 63, as the bits of a word.
-#[derive(Clone, Copy)]
+#[derive(Clone, Copy, PartialEq, Eq, Debug)]
 pub struct NodeSet {
     word: u64,
 }
@@ -22,8 +22,10 @@ impl Model for NodeSet {
 
 impl NodeSet {
     // No number.
+    #[tactic(auto, using(crate::proofs::BitLaws::has_none))]
     pub fn empty() -> NodeSet
-        ensures { result ≡ 0 }
+        ensures word { result ≡ 0 }
+        ensures members { (x : ℕ) → Has result x → ⊥ }
     {
         NodeSet { word: 0 }
     }

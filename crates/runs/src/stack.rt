@@ -100,10 +100,9 @@ impl Levels {
             self.depth = at;
             return;
         }
-        let mut parent = self.open[at - 1];
+        let parent = &mut self.open[at - 1];
         parent.child = parent.child.union(found);
         parent.below = parent.below.union(found.union(below));
-        self.open[at - 1] = parent;
         self.depth = at;
     }
 

@@ -2,6 +2,7 @@
 ghost use Rattle.std.specs.Prelude.{◌≡◌, Some};
 ghost use Rattle.sources.specs.Faults.{number, record_number, fault_text};
 
+use std::error::Error;
 use std::fmt;
 
 // A folder: how deep it lies, and its label.
@@ -45,7 +46,9 @@ impl fmt::Display for TableFault {
     }
 }
 
-// A folder table, read record by record; `level` nodes are open.
+impl Error for TableFault {}
+
+// A folder table, read record by record; `level` nodes are open. The place is kept, since a fault tells the record's number.
 #[derive(Drop)]
 pub struct FolderTable<'a, L> {
     pub(crate) records: &'a [Record<L>],

@@ -7,7 +7,7 @@ use Rattle.xml.specs.Bytes.{plain}
 use Rattle.xml.specs.Markup.{TagEnds, EndEnds, TagFault, EndFault}
 use Rattle.xml.specs.Markup.TagFault.{slash_ended, slash_byte, unclosed, opened}
 use Rattle.xml.specs.Markup.EndFault.{ended, byte_behind}
-use Rattle.xml.specs.Inner.{Told, Unclosed}
+use Rattle.xml.specs.Inner.{Told, CloseMissing}
 use Rattle.xml.specs.Shapes.{slash_tag, bracket_tag, no_close}
 use Rattle.xml.specs.declared.fault.ScanFault.{ScanFault}
 use Rattle.xml.specs.declared.fault.ScanFault.TheVariants.{Byte, End, LongName}
@@ -22,7 +22,7 @@ first_runs ok end p (Some i) h l = let w = h.1 in record { late = h.0; within = 
 
 -- a `>` that is looked for at one place alone
 abbrev pub Closes : List ℕ → ℕ → Result ℕ ScanFault → Type 0
-Closes xs p r = MatchResult r (λ c. (c ≡ p) × (byte xs p ≡ 62)) (Unclosed xs p)
+Closes xs p r = MatchResult r (λ c. (c ≡ p) × (byte xs p ≡ 62)) (CloseMissing xs p)
 
 module _ (xs : List ℕ) (n : ℕ) (r : Result ℕ ScanFault) where
   pub slash_closes : byte xs n ≡ 47 → Closes xs (n + 1) r → MatchResult r (TagEnds xs n) (Told (TagFault xs n))
@@ -31,7 +31,7 @@ module _ (xs : List ℕ) (n : ℕ) (r : Result ℕ ScanFault) where
       good : (c : ℕ) → (c ≡ n + 1) × (byte xs (n + 1) ≡ 62) → TagEnds xs n c
       good c (e, b) = subst (TagEnds xs n) (sym e) (slash_tag xs n s (standing xs (n + 1) 62 b (omega arith)) b)
 
-      bad : (f : ScanFault) → Unclosed xs (n + 1) f → Told (TagFault xs n) f
+      bad : (f : ScanFault) → CloseMissing xs (n + 1) f → Told (TagFault xs n) f
       bad (Byte c) (e, w, b) = subst (TagFault xs n 30) (sym e) (slash_byte s w b)
       bad (End c) (w, e) = subst (TagFault xs n 31) (sym e) (slash_ended s w)
       bad (LongName c) h = absurd h
@@ -43,7 +43,7 @@ module _ (xs : List ℕ) (n : ℕ) (r : Result ℕ ScanFault) where
       good : (c : ℕ) → (c ≡ p) × (byte xs p ≡ 62) → TagEnds xs n c
       good c (e, b) = subst (TagEnds xs n) (sym e) (bracket_tag xs n p a l (standing xs p 62 b (omega arith)) (λ f. omega arith))
 
-      bad : (f : ScanFault) → Unclosed xs p f → Told (TagFault xs n) f
+      bad : (f : ScanFault) → CloseMissing xs p f → Told (TagFault xs n) f
       bad (Byte c) (e, w, b) = subst (TagFault xs n 30) (sym e) (opened p a l (no_close (byte xs p) (l.stops w) b))
       bad (End c) (w, e) =
           let within = l.within in
@@ -57,7 +57,7 @@ module _ (xs : List ℕ) (n : ℕ) (r : Result ℕ ScanFault) where
       good : (c : ℕ) → (c ≡ p) × (byte xs p ≡ 62) → EndEnds xs n c
       good c (e, b) = subst (EndEnds xs n) (sym e) (record { space = l; closes = b })
 
-      bad : (f : ScanFault) → Unclosed xs p f → Told (EndFault xs n) f
+      bad : (f : ScanFault) → CloseMissing xs p f → Told (EndFault xs n) f
       bad (Byte c) (e, w, b) = subst (EndFault xs n 30) (sym e) (byte_behind p l w b)
       bad (End c) (w, e) =
           let within = l.within in

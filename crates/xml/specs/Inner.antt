@@ -29,10 +29,10 @@ abbrev pub Told : (ℕ → ℕ → Type 0) → ScanFault → Type 0
 Told D f = D (scan_number f) (scan_place f)
 
 -- no `>` stands at p
-abbrev pub Unclosed : List ℕ → ℕ → ScanFault → Type 0
-Unclosed xs p (Byte c) = (c ≡ p) × (p < length xs) × (byte xs p ≢ 62)
-Unclosed xs p (End c) = (length xs ≤ p) × (c ≡ length xs)
-Unclosed xs p (LongName c) = ⊥
+abbrev pub CloseMissing : List ℕ → ℕ → ScanFault → Type 0
+CloseMissing xs p (Byte c) = (c ≡ p) × (p < length xs) × (byte xs p ≢ 62)
+CloseMissing xs p (End c) = (length xs ≤ p) × (c ≡ length xs)
+CloseMissing xs p (LongName c) = ⊥
 
 -- a start tag whose name begins at b
 pub record Tagged (xs : List ℕ) (b : ℕ) (t : Opening) : Type 0 where

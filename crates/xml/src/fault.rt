@@ -4,6 +4,7 @@ ghost use Rattle.xml.specs.Faults.{scan_number, scan_place, number, place, fault
 ghost use Rattle.xml.specs.declared.fault.LookFault.{LookFault};
 ghost use Rattle.xml.specs.declared.fault.XmlFault.{XmlFault};
 
+use std::error::Error;
 use std::fmt;
 
 // What a scan finds, with the place.
@@ -86,6 +87,8 @@ impl fmt::Display for XmlFault {
         write!(f, "{} at {}", self.number(), self.place())
     }
 }
+
+impl Error for XmlFault {}
 
 impl LookFault {
     pub fn number(&self) -> u32

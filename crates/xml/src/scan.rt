@@ -4,11 +4,11 @@ ghost use Rattle.std.specs.Prelude.{◌≡◌, ◌≤◌, length, drop, MatchRes
 ghost use Rattle.labels.specs.Spelling.{byte, Longest, Spelled};
 ghost use Rattle.xml.specs.Bytes.{plain};
 ghost use Rattle.xml.specs.Markup.{TagEnds, EndEnds, NameFault, TagFault, StartFault, EndFault};
-ghost use Rattle.xml.specs.Inner.{Told, Unclosed, Tagged};
+ghost use Rattle.xml.specs.Inner.{Told, CloseMissing, Tagged};
 
 use crate::fault::ScanFault;
 use labels::spelling;
-use labels::spelling::{NoName, is_white, white_end};
+use labels::spelling::{NoName, is_white, run_end, white_end};
 
 // The bytes from the place on; past the end there are none.
 pub fn rest(input: &[u8], at: usize) -> &[u8]
@@ -29,18 +29,23 @@ pub fn name_end(input: &[u8], at: usize) -> Result<usize, ScanFault>
     }
 }
 
+// Whether the byte is neither `<` nor `>`.
+fn is_plain(b: u8) -> bool
+    ensures { result ≡ plain b }
+{
+    !(b == b'<' || b == b'>')
+}
+
 // The first place of `<` or `>`, or the length.
 fn bracket_place(input: &[u8], from: usize) -> usize
     ensures { from ≤ length input.now → Longest (λ i. plain (byte input.now i)) (length input.now) from result }
 {
-    (from..input.len())
-        .find(|i| input[*i] == b'<' || input[*i] == b'>')
-        .unwrap_or(input.len())
+    run_end(input, from, is_plain)
 }
 
 // The place, where a `>` must stand.
 fn close_at(input: &[u8], at: usize) -> Result<usize, ScanFault>
-    ensures { MatchResult result (λ c. (c ≡ at) × (byte input.now at ≡ 62)) (Unclosed input.now at) }
+    ensures { MatchResult result (λ c. (c ≡ at) × (byte input.now at ≡ 62)) (CloseMissing input.now at) }
 {
     match rest(input, at) {
         [] => Err(ScanFault::End(input.len())),

@@ -124,7 +124,8 @@ impl<'a> Tags<'a> {
         }
     }
 
-    // Goes through the next tag; what it asks of the place, each of the three has from `pass`. With none left it answers None, or the fault.
+    // Goes through the next tag. With none left it answers None, or the fault. What each of the three asks of the place it has from `pass`;
+    // a type for each markup would be no plainer, with one function that makes it and one that takes it.
     pub(crate) fn next(&mut self) -> Result<Option<Tag>, XmlFault>
         ensures { MatchResult result (Gives self.old self.new) (Refuses self.old self.new) }
     {

@@ -7,14 +7,14 @@ use Rattle.rules.specs.Nodes.{rule_nodes}
 use Rattle.rules.proofs.RuleLaws.{few_nodes}
 use Rattle.runs.specs.Bits.{Has}
 use Rattle.runs.specs.Edges.{asked, EdgesMet}
-use Rattle.runs.proofs.BitLaws.{has_none, iff_comp}
+use Rattle.runs.proofs.BitLaws.{iff_comp}
 use Rattle.runs.proofs.EdgeLaws.{Lacks, no_root, kept, more, edges_all}
 use Rattle.runs.proofs.edges.edges_met.Goals as goal
 use Rattle.runs.proofs.edges.edges_met.Goals.{in-Child, in-Descendant, then-y-gt0+then-not-contains, else-y-gt0, else-y-gt0-via-then-y-gt0+else-not-contains, else-y-gt0-via-else-y-gt0}
 
 pub loop-y-init : goal.loop-y-init
 loop-y-init c x = (
-  λ h. absurd (has_none x (subst (λ (u : ℕ). Has u x) c.empty-unmet.ensures h)),
+  λ h. absurd (c.empty-unmet.ensures.members x h),
   λ h. let l : h.0 < 0 = h.2 in let z : ⊥ = omega arith in absurd z,
 )
 

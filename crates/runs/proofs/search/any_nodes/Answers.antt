@@ -10,7 +10,7 @@ use Rattle.runs.proofs.search.any_nodes.Goals as goal
 use Rattle.runs.proofs.search.any_nodes.Goals.{then-node, else-node}
 
 pub loop-x-init : goal.loop-x-init
-loop-x-init c = let P : ℕ → Type 0 = λ x. any_of (rule_nodes c.args.rule.now) x ≡ true in subst (λ (u : ℕ). Grown P 0 0 u) (sym c.empty-met.ensures) (grown_none P 0)
+loop-x-init c = let P : ℕ → Type 0 = λ x. any_of (rule_nodes c.args.rule.now) x ≡ true in subst (λ (u : ℕ). Grown P 0 0 u) (sym c.empty-met.ensures.word) (grown_none P 0)
 
 pub loop-x-preserved : goal.loop-x-preserved
 loop-x-preserved c =
