@@ -15,7 +15,7 @@ use std::io::{Read, Write};
 // The numbers that the list for them holds: no input has more to report.
 const LIST: usize = 16_384;
 
-// What the program prints.
+// What the program prints. Lines are formatted and pushed, since the error of a push is that of memory, and that of `write!` is not.
 fn text(heap: Global, numbers: &[u32], verdict: Result<(), Refusal>) -> Result<String, AllocError> {
     let mut text = String::new(heap);
     for number in numbers {

@@ -1,5 +1,5 @@
 // Folder tables, and a run with more selected nodes than can wait.
-use crate::EVENTS;
+use crate::ended::{EVENTS, show_ended};
 use labels::code::FolderCode;
 use rules::rule::Rule;
 use runs::run::Run;
@@ -12,10 +12,8 @@ fn show_depths(rt: &impl Print, depths: [u32; 3]) -> io::Result<()> {
     let records = depths.map(|depth| Record { depth, label });
     let mut source = FolderTable::new(&records);
     let (count, fault) = drained(&mut source, EVENTS);
-    match fault {
-        None => println!(rt; "depths {depths:?}: {count} events"),
-        Some(fault) => println!(rt; "depths {depths:?}: {count} events, refused {fault}"),
-    }
+    print!(rt; "depths {depths:?}: ")?;
+    show_ended(rt, count, fault)
 }
 
 // Opens and closes a leaf.

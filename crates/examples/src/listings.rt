@@ -1,5 +1,5 @@
 // XML listings.
-use crate::EVENTS;
+use crate::ended::{EVENTS, show_ended};
 use sources::drain::drained;
 use std::io;
 use xml::reader::Xml;
@@ -7,10 +7,8 @@ use xml::reader::Xml;
 fn show_listing(rt: &impl Print, listing: &str) -> io::Result<()> {
     let mut source = Xml::new(listing.as_bytes());
     let (count, fault) = drained(&mut source, EVENTS);
-    match fault {
-        None => println!(rt; "{listing}: {count} events"),
-        Some(fault) => println!(rt; "{listing}: {count} events, refused {fault}"),
-    }
+    print!(rt; "{listing}: ")?;
+    show_ended(rt, count, fault)
 }
 
 pub fn show(rt: &impl Print) -> io::Result<()> {
