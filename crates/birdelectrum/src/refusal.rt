@@ -35,8 +35,8 @@ impl From<runs::refusal::Refusal> for Stop {
     }
 }
 
-// Why an input is refused: it is too long, its rule text or its listing is at fault, or the run refuses an event of the listing of so
-// many bytes. A run refuses no event of a listing that fits the input.
+// Why an input is refused: it is too long, its rule text or its listing is at fault, or the run refuses an event; `length` is that of
+// the listing. A run refuses no event of a listing that fits the input.
 #[derive(Clone, Copy, PartialEq, Eq, Debug)]
 pub enum Refusal {
     Input,

@@ -13,8 +13,8 @@ use sources::event::Event;
 use sources::source::Source;
 use xml::reader::Xml;
 
-// How many numbers are reported, and how the listing ended. A count beside the caller's list, since `Run::take` writes into a list that
-// the caller lends.
+// How many numbers are reported, and whether the input is refused. A count, and not the filled part of the caller's list: the list stays
+// lent no longer than the call.
 #[derive(Clone, Copy, PartialEq, Eq, Debug)]
 pub struct Report {
     pub reported: usize,
@@ -31,8 +31,8 @@ fn line_end(input: &[u8]) -> usize
         .unwrap_or(input.len())
 }
 
-// The rule in the first line of an input, with the names of its rule nodes, and the listing behind that line. The names are a list that
-// reading a rule text fills, which asks for room for the most rule nodes.
+// The rule in the first line of an input, with the names of its rule nodes, and the listing behind that line. Reading a rule
+// text fills the list of names, and asks that it have room for the most rule nodes.
 #[derive(Drop)]
 struct Selection<'a> {
     rule: Rule,

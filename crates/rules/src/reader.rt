@@ -58,6 +58,7 @@ impl<'a> Reader<'a> {
         if t.kind != kind {
             return Err(TextRefusal::NotAllowed(t.place));
         }
+        // Written out where a token is passed: a method for it would ask that the token lies in the text.
         self.at = t.place + t.len;
         Ok(())
     }

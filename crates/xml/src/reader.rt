@@ -17,6 +17,7 @@ pub(crate) struct Tags<'a> {
     // the root's start tag is past
     pub(crate) rooted: bool,
     ghost within: { place ≤ length input.now },
+    // known of each `ArrayVec`; said here for the definitions of what a reader means
     ghost few: { length opened.items ≤ levels },
     ghost fresh: { rooted ≡ false → opened.items ≡ [] },
 }

@@ -43,7 +43,7 @@ fn bracket_place(input: &[u8], from: usize) -> usize
     run_end(input, from, is_plain)
 }
 
-// The place, where a `>` must stand.
+// Answers the place itself, at which a `>` must stand.
 fn close_at(input: &[u8], at: usize) -> Result<usize, ScanFault>
     ensures { MatchResult result (λ c. (c ≡ at) × (byte input.now at ≡ 62)) (CloseMissing input.now at) }
 {
