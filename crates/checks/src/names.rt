@@ -5,11 +5,12 @@ use labels::name::{Name, NameRefusal};
 // Whether the name of the bytes has these bytes and no more.
 fn reads_back(bytes: &[u8]) -> Result<bool, NameRefusal> {
     let name = Name::try_from(bytes)?;
-    let told = bytes
+    let each = bytes
         .iter()
         .enumerate()
         .all(|(i, b)| name.byte(i) == Some(*b));
-    Ok(told && name.len() == bytes.len() && name.byte(bytes.len()).is_none())
+    let length = name.len() == bytes.len() && name.byte(bytes.len()).is_none();
+    Ok(each && length && name.bytes().as_slice() == bytes)
 }
 
 #[test]

@@ -1,9 +1,9 @@
 -- The byte at a place of a name.
-use Rattle.std.proofs.Common.{◌≡◌, ℕ, zero, suc, ◌+◌, ◌-◌, ◌*◌, ◌/◌, ◌%◌, ◌^◌, ◌<◌, ◌≤◌, min, cond, ltb, ◌⊎◌, List, [], ◌∷◌, ◌++◌, get_or, Some, sym, ap, ◌∙◌, inl, inr, arith}
+use Rattle.std.proofs.Common.{◌≡◌, ℕ, zero, suc, ◌+◌, ◌-◌, ◌*◌, ◌/◌, ◌%◌, ◌^◌, ◌<◌, ◌≤◌, min, cond, ltb, ◌⊎◌, List, [], ◌∷◌, ◌++◌, get_or, take, Some, sym, ap, ◌∙◌, inl, inr, arith}
 use Rattle.std.specs.List.{slice_get}
 use Rattle.std.proofs.lemmas.Nat.{shr-shr}
-use Rattle.std.proofs.lemmas.List.{get_or_append_left, get_or-append_right, get_or_at}
-use Rattle.std.proofs.lemmas.Option.{slice_get-get_or}
+use Rattle.std.proofs.lemmas.List.{get_or_append_left, get_or-append_right, get_or_at, take_more}
+use Rattle.std.proofs.lemmas.Option.{slice_get-get_or, slice_get_within, get_or_from_slice_get}
 use Rattle.std.proofs.lemmas.Bool.{cases_lt, cond_both, ltb-true, ltb-false}
 use Rattle.labels.specs.declared.name.Name.{Name}
 use Rattle.labels.specs.Names.{fixed, bytes_of}
@@ -102,3 +102,7 @@ module _ (n : Name) (i : ℕ) (l : i < n.len) where
   byte_told m w e f =
       slice_get-get_or (bytes_of n) i 0 (omega (arith, length_bytes n))
       ∙ ap (λ (b : ℕ). Some b) (told ∙ ap (λ (v : ℕ). v / 2 ^ (8 * (min (n.len - (i - i % 8)) 8 - 1 - i % 8)) % 256) (sym e) ∙ ap (λ (k : ℕ). w / 2 ^ (8 * (k - 1 - i % 8)) % 256) (sym f))
+
+-- the bytes before a place, and the byte there
+pub next_byte : (bs : List ℕ) (i b : ℕ) → slice_get bs i ≡ Some b → take (i + 1) bs ≡ take i bs ++ b ∷ []
+next_byte bs i b e = take_more bs i 0 (slice_get_within bs i b e) ∙ ap (λ (x : ℕ). take i bs ++ x ∷ []) (get_or_from_slice_get bs i b 0 e)

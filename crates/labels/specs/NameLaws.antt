@@ -1,17 +1,19 @@
--- The bytes of a name.
-use Rattle.std.specs.Prelude.{◌≡◌, ℕ, zero, suc, ◌+◌, ◌-◌, ◌*◌, ◌/◌, ◌%◌, ◌^◌, ◌<◌, ◌≤◌, min, Bool, true, false, ◌==◌, ◌&&◌, ◌⊎◌, List, [], ◌∷◌, ◌++◌, length, take, drop, nat_lt, slice_index, slice_range, refl}
+-- The bytes of a name, and making names.
+use Rattle.std.specs.Prelude.{◌≡◌, ℕ, zero, suc, ◌+◌, ◌-◌, ◌*◌, ◌/◌, ◌%◌, ◌^◌, ◌<◌, ◌≤◌, min, Bool, true, false, ◌==◌, ◌&&◌, ◌⊎◌, List, [], ◌∷◌, ◌++◌, length, take, drop, nat_lt, slice_range, Result, Ok, Err, refl}
 use Rattle.std.proofs.Common.{sym, ap, ap₂, subst, ◌∙◌, append-nil, append_assoc, le-ltb, arith, pow-suc, mod-eq_of_lt, inl, inr}
 use mathlib.Core.HLevel.{is_prop→PathP}
 use Rattle.std.proofs.Math.Bridge.{le_prop}
 use Rattle.std.specs.List.{AllByRecursion}
+use Rattle.std.specs.Result.{result_unwrap_or}
 use Rattle.labels.specs.Spelling.{name_limit, kept_name}
 use Rattle.std.specs.Str.{bytes_eq}
 use Rattle.std.proofs.lemmas.Slice.Eq.{bytes_eq-Decides}
-use Rattle.std.proofs.lemmas.Bool.{false≢true, cases_lt, cond-false, and_parts, eq-eqb, eqb-true}
+use Rattle.std.proofs.lemmas.Bool.{false≢true, cases_lt, cond-false, cond-true, lt-ltb, and_parts, eq-eqb, eqb-true}
 use Rattle.std.proofs.Math.Nat.{pow-zero, pow-le-pow_right}
 use Rattle.std.proofs.lemmas.List.{length-append, length_push, take_at, drop_at, same_from_push, drop-drop, take-append-drop, take_rest, take_all, length-take-le, length-drop}
 use Rattle.labels.specs.declared.name.Name.{Name}
-use Rattle.labels.specs.Names.{fixed, bytes_of, written, word_of, name_of, MadeFrom, OnlyName}
+use Rattle.labels.specs.declared.name.NameRefusal.{NameRefusal}
+use Rattle.labels.specs.Names.{fixed, bytes_of, written, word_of, name_of, MadeFrom, Naming}
 
 pub length_fixed : (n w : ℕ) → length (fixed n w) ≡ n
 length_fixed zero w = refl
@@ -229,12 +231,8 @@ every_take P zero bs h = tt
 every_take P (suc n) [] h = tt
 every_take P (suc n) (b ∷ bs) h = (h.0, every_take P n bs h.1)
 
-pub every_part : (P : ℕ → Type 0) (n p : ℕ) (bs : List ℕ) → AllByRecursion P bs → AllByRecursion P (take n (drop p bs))
+every_part : (P : ℕ → Type 0) (n p : ℕ) (bs : List ℕ) → AllByRecursion P bs → AllByRecursion P (take n (drop p bs))
 every_part P n p bs h = every_take P n (drop p bs) (every_drop P p bs h)
-
-pub every_place : (P : ℕ → Type 0) (bs : List ℕ) → ((i : ℕ) → P (slice_index bs i)) → AllByRecursion P bs
-every_place P [] h = tt
-every_place P (b ∷ bs) h = (h 0, every_place P bs (λ i. h (suc i)))
 
 -- one word of the name gives eight bytes, or as many as are left
 word_back : (bs : List ℕ) (p : ℕ) → AllByRecursion (λ b. b < 256) bs → fixed (min 8 (length bs - p)) (word_of bs p (min 8 (length bs - p))) ≡ take 8 (drop p bs)
@@ -266,24 +264,42 @@ name_bytes bs few h =
     subst Q (sym len) (cc)
 
 -- the bytes of a name are not too many
+pub few_name : (n : Name) → length (bytes_of n) ≤ name_limit
+few_name n = let l = length_bytes n in let f = n.few in omega arith
+
 few_bytes : (bs : List ℕ) (n : Name) → bytes_of n ≡ bs → length bs ≤ name_limit
-few_bytes bs n e = subst (λ (xs : List ℕ). length xs ≤ name_limit) e (let l = length_bytes n in let f = n.few in omega arith)
+few_bytes bs n e = subst (λ (xs : List ℕ). length xs ≤ name_limit) e (few_name n)
+
+every_append : (P : ℕ → Type 0) (xs ys : List ℕ) → AllByRecursion P xs → AllByRecursion P ys → AllByRecursion P (xs ++ ys)
+every_append P [] ys h k = k
+every_append P (x ∷ xs) ys h k = (h.0, every_append P xs ys h.1 k)
+
+fixed_small : (n w : ℕ) → AllByRecursion (λ b. b < 256) (fixed n w)
+fixed_small zero w = tt
+fixed_small (suc n) w = every_append (λ b. b < 256) (fixed n (w / 256)) (w % 256 ∷ []) (fixed_small n (w / 256)) (omega arith, tt)
+
+-- the bytes of a name are bytes
+bytes_small : (n : Name) → AllByRecursion (λ b. b < 256) (bytes_of n)
+bytes_small n =
+    every_append (λ b. b < 256) _ _ (fixed_small (min 8 n.len) n.first)
+    (every_append (λ b. b < 256) _ _ (fixed_small (min 8 (n.len - 8)) n.second)
+    (every_append (λ b. b < 256) _ _ (fixed_small (min 8 (n.len - 16)) n.third) (fixed_small (min 8 (n.len - 24)) n.fourth)))
 
 -- a name with these bytes is the name of them
-is_name_of : (bs : List ℕ) (n : Name) → ((i : ℕ) → slice_index bs i < 256) → bytes_of n ≡ bs → n ≡ name_of bs
-is_name_of bs n h e =
-    let few = few_bytes bs n e in
-    bytes_one n (name_of bs) (e ∙ sym (name_bytes bs few (every_place (λ b. b < 256) bs h)))
+pub is_name_of : (bs : List ℕ) (n : Name) → bytes_of n ≡ bs → n ≡ name_of bs
+is_name_of bs n e = bytes_one n (name_of bs) (e ∙ sym (name_bytes bs (few_bytes bs n e) (subst (AllByRecursion (λ b. b < 256)) e (bytes_small n))))
 
 pub kept_short : (bs : List ℕ) → length bs ≤ name_limit → kept_name bs ≡ bs
 kept_short bs few = cond-false (nat_lt name_limit (length bs)) [] bs (le-ltb name_limit (length bs) few)
 
--- a name keeps the bytes that it was made from
-kept_all : (bs : List ℕ) (n : Name) → bytes_of n ≡ bs → bytes_of n ≡ kept_name bs
-kept_all bs n e = e ∙ sym (kept_short bs (few_bytes bs n e))
+------------------------------------------------------------------------
+-- making names
 
-pub named : (bs : List ℕ) (n : Name) → ((i : ℕ) → slice_index bs i < 256) → bytes_of n ≡ bs → MadeFrom bs n
-named bs n h e = record { bytes = e; name = is_name_of bs n h e; kept = kept_all bs n e }
+-- a name with these bytes is the only one
+pub made_from : (bs : List ℕ) (n : Name) → bytes_of n ≡ bs → MadeFrom bs n
+made_from bs n e = record { holds = e; only = λ m h. bytes_one m n (h ∙ sym e); no_other = λ k r. let few = few_bytes bs n e in let many = r.1 in absurd (omega arith) }
 
-pub only_name : (bs : List ℕ) (n : Name) → bytes_of n ≡ bs → OnlyName bs n
-only_name bs n e = record { few = few_bytes bs n e; only = λ m f. bytes_one m n (f ∙ sym e) }
+-- what stands in place of a refusal has no bytes, and so the bytes that are kept
+pub made_or_empty : (bs : List ℕ) (answer : Result Name NameRefusal) (n : Name) → Naming bs answer → bytes_of n ≡ [] → bytes_of (result_unwrap_or answer n) ≡ kept_name bs
+made_or_empty bs (Ok m) n h e = h.holds ∙ sym (kept_short bs (few_bytes bs m h.holds))
+made_or_empty bs (Err f) n h e = e ∙ sym (cond-true (nat_lt name_limit (length bs)) [] bs (lt-ltb name_limit (length bs) (h.holds.1)))

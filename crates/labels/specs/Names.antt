@@ -1,9 +1,10 @@
 -- What a name stands for, and when none is made.
-use Rattle.std.specs.Prelude.{◌≡◌, ℕ, zero, suc, ◌+◌, ◌-◌, ◌*◌, ◌/◌, ◌%◌, ◌^◌, ◌<◌, ◌≤◌, min, Bool, true, ◌↔◌, IfOk, MatchResult, Result, List, [], ◌∷◌, ◌++◌, length, take, drop}
+use Rattle.std.specs.Prelude.{◌≡◌, ℕ, zero, suc, ◌+◌, ◌-◌, ◌*◌, ◌/◌, ◌%◌, ◌^◌, ◌<◌, ◌≤◌, min, Bool, true, ◌↔◌, MatchResult, Result, List, [], ◌∷◌, ◌++◌, length, take, drop}
 use Rattle.std.proofs.Common.{mod-lt, pow-suc, arith}
 use Rattle.std.proofs.Math.Nat.{min-le_left, pow-zero}
 use Rattle.std.specs.Str.{bytes_eq}
-use Rattle.labels.specs.Spelling.{name_limit, kept_name}
+use Rattle.labels.specs.Spelling.{name_limit}
+use Rattle.labels.specs.Exact.{Sole}
 use Rattle.labels.specs.declared.name.Name.{Name}
 use Rattle.labels.specs.declared.name.NameRefusal.{NameRefusal}
 use Rattle.labels.specs.declared.name.NameRefusal.TheVariants.{TooLong}
@@ -52,17 +53,6 @@ cut_name n few bs = record {
 unfoldable pub name_of : List ℕ → Name
 name_of bs = cut_name (min name_limit (length bs)) (min-le_left name_limit (length bs)) bs
 
--- the name made from the bytes: reading its bytes gives them back
-pub record MadeFrom (bs : List ℕ) (n : Name) : Type 0 where
-  pub bytes : bytes_of n ≡ bs
-  pub name : n ≡ name_of bs
-  pub kept : bytes_of n ≡ kept_name bs
-
--- the bytes are not too many, and no other name has them
-pub record OnlyName (bs : List ℕ) (n : Name) : Type 0 where
-  pub few : length bs ≤ name_limit
-  pub only : (m : Name) → bytes_of m ≡ bs → m ≡ n
-
 -- names are equal when their bytes are
 abbrev pub same_name : Name → Name → Bool
 same_name a b = bytes_eq (bytes_of a) (bytes_of b)
@@ -70,15 +60,28 @@ same_name a b = bytes_eq (bytes_of a) (bytes_of b)
 abbrev pub EqualByBytes : Type 0
 EqualByBytes = (a b : Name) → (same_name a b ≡ true) ↔ (bytes_of a ≡ bytes_of b)
 
--- The number of the refusal
+------------------------------------------------------------------------
+-- making names
+
+abbrev pub HasBytes : List ℕ → Name → Type 0
+HasBytes bs n = bytes_of n ≡ bs
+
+-- the number of the refusal, which has no value
 abbrev pub number : NameRefusal → ℕ
 number TooLong = 36
 
--- 36 comes with more bytes than a name has, and with no others
-abbrev pub Refused : List ℕ → NameRefusal → Type 0
-Refused bs TooLong = name_limit < length bs
+-- a reason to make no name of the bytes, by its number
+abbrev pub NameReason : List ℕ → ℕ → Type 0
+NameReason bs k = (k ≡ 36) × (name_limit < length bs)
 
--- what making a name of the bytes answers: the name, or that they are too many
-pub record Naming (bs : List ℕ) (answer : Result Name NameRefusal) : Type 0 where
-  pub made : MatchResult answer (MadeFrom bs) (Refused bs)
-  pub only : IfOk answer (OnlyName bs)
+-- The name has these bytes, and no other name has them, and there is no reason to refuse them.
+abbrev pub MadeFrom : List ℕ → Name → Type 0
+MadeFrom bs n = Sole (HasBytes bs) (NameReason bs) n
+
+-- There is this reason to refuse the bytes, and no other, and no name has them.
+abbrev pub Unmade : List ℕ → NameRefusal → Type 0
+Unmade bs f = Sole (NameReason bs) (HasBytes bs) (number f)
+
+-- what making a name of the bytes answers
+abbrev pub Naming : List ℕ → Result Name NameRefusal → Type 0
+Naming bs answer = MatchResult answer (MadeFrom bs) (Unmade bs)

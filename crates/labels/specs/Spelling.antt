@@ -1,5 +1,5 @@
 -- How names and white space are spelled.
-use Rattle.std.specs.Prelude.{◌≡◌, ℕ, ◌+◌, ◌<◌, ◌≤◌, Bool, true, false, cond, ◌||◌, List, [], length, ◌==◌, nat_lt, slice_index, slice_range}
+use Rattle.std.specs.Prelude.{◌≡◌, ℕ, ◌+◌, ◌<◌, ◌≤◌, Bool, true, false, if◌then◌else◌, ◌||◌, List, [], length, ◌==◌, nat_lt, slice_index, slice_range}
 use Rattle.std.specs.Char.{is_ascii_digit, is_ascii_alphabetic}
 
 -- the byte at a place; past the end it is 0, which no definition asks for
@@ -51,4 +51,4 @@ Spelled bs p q = Named bs p q × (q ≤ p + name_limit)
 
 -- the bytes that a name keeps: none where they are too many
 abbrev pub kept_name : List ℕ → List ℕ
-kept_name bs = cond (nat_lt name_limit (length bs)) [] bs
+kept_name bs = if nat_lt name_limit (length bs) then [] else bs

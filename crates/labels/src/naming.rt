@@ -9,6 +9,7 @@ ghost use Rattle.labels.specs.NameLaws.{compared};
 use crate::kind::{LabelKind, NameLabel};
 use crate::name::{Name, NameRefusal};
 use crate::spelling::NAME_LIMIT;
+use arrayvec::ArrayVec;
 
 impl NameRefusal {
     pub fn number(&self) -> u32
@@ -55,6 +56,18 @@ impl Name {
         self.len
     }
 
+    // The bytes of the name.
+    #[tactic(auto, using(crate::specs::NameLaws::few_name, crate::proofs::ByteLaws::next_byte))]
+    pub fn bytes(&self) -> ArrayVec<u8, NAME_LIMIT>
+        ensures { result.items ≡ bytes_of self.now }
+    {
+        let mut bytes = ArrayVec::new();
+        for at in 0..self.len() {
+            bytes.push(byte_at(self, at));
+        }
+        bytes
+    }
+
     // The byte at the place, if the name has one there.
     pub fn byte(&self, at: usize) -> Option<u8>
         ensures { result ≡ slice_get (bytes_of self.now) at }
@@ -73,6 +86,7 @@ impl TryFrom<&[u8]> for Name {
 
     ghost try_from_gives = { λ bytes answer. Naming bytes.now answer };
 
+    #[tactic(auto, using(crate::specs::NameLaws::few_name))]
     fn try_from(bytes: &[u8]) -> Result<Name, NameRefusal> {
         let len = bytes.len();
         if len > NAME_LIMIT {
@@ -128,6 +142,7 @@ impl NameLabel for Name {
 
     ghost alike = { bytes_eq };
 
+    #[tactic(auto, using(crate::specs::NameLaws::made_or_empty))]
     fn from_name(bytes: &[u8]) -> Name {
         Name::try_from(bytes).unwrap_or(Name::empty())
     }

@@ -24,6 +24,7 @@ pub(crate) enum Tag {
 }
 
 // The label of an element's name.
+#[tactic(auto, using(labels::specs::NameLaws::is_name_of))]
 fn label(bytes: &[u8]) -> Name
     requires { length bytes.now ≤ name_limit }
     ensures { result ≡ name_of bytes.now }

@@ -1,6 +1,6 @@
 use Rattle.std.proofs.Common.{◌≡◌, ℕ, ◌-◌, ◌≤◌, min, List, length, take, drop, ◌∙◌, arith}
 use Rattle.std.proofs.lemmas.List.{length-take-le}
-use Rattle.labels.specs.NameLaws.{fix_part, join_parts, length_cut, named, only_name}
+use Rattle.labels.specs.NameLaws.{fix_part, join_parts, length_cut, made_from}
 use Rattle.labels.proofs.naming.NameTryFromRefSliceU8.try_from.Goals as goal
 
 pub returns : goal.returns
@@ -18,4 +18,4 @@ returns c =
     let e3 = fix_part (min 8 (length bs - 16)) c.word-third.result (take (k - j) (drop j bs)) c.word-third.ensures.digits (length_cut bs j (k - j) (omega arith) ∙ omega arith) in
     let e4 = fix_part (min 8 (length bs - 24)) c.word-fourth.result (take (length bs - k) (drop k bs)) c.word-fourth.ensures.digits (length_cut bs k (length bs - k) (omega arith) ∙ omega arith) in
     let all = join_parts bs i j k (omega arith) (omega arith) in
-    record { made = named bs _ (λ i. let t = c.type_inv.bytes i in omega arith) (cc); only = only_name bs _ (cc) }
+    made_from bs _ (cc)
