@@ -3,13 +3,12 @@ use Rattle.std.proofs.Common.{◌≡◌, ℕ, ◌≤◌, ◌⊎◌, List, [], �
 use Rattle.rules.specs.declared.syntax.Token.{Token}
 use Rattle.rules.specs.declared.syntax.ParsedNode.{ParsedNode}
 use Rattle.rules.specs.declared.refusal.TextRefusal.{TextRefusal}
-use Rattle.rules.specs.declared.refusal.TextRefusal.TheVariants.{ShortList, Length, NotAllowed, LongName, ManyTests, DeepBracket}
+use Rattle.rules.specs.Limits.{text_limit}
 use Rattle.rules.specs.Grammar.{Text}
-use Rattle.rules.specs.Reading.{Refused, Offends, ComesBefore, same, allowed_first, tests_first}
-use Rattle.rules.specs.Refusals.{number, place}
+use Rattle.rules.specs.Reading.{Refused, Offends, ComesBefore, same, not_allowed_first, many_before_long, many_before_deep, long_before_deep}
+use Rattle.rules.specs.Refusals.{number_and_place}
 use Rattle.rules.specs.Answer.{Unfit, Gives, gives, IsRefused, unfit, refused}
-use Rattle.rules.specs.Naming.{Readable, Reason, ReasonFor, OneAnswer, short_list, by_text}
-use Rattle.rules.specs.Exact.{Sole}
+use Rattle.rules.specs.Naming.{Readable, Unreadable, short_list, by_text, Accepts, Refuses}
 use Rattle.rules.proofs.Sole.{sole}
 use Rattle.rules.proofs.Machine.{complete}
 use Rattle.rules.specs.Machine.{start, ended, to, accepts, refuses, lex, run}
@@ -17,20 +16,12 @@ use Rattle.rules.specs.Readers.{told}
 use Rattle.rules.proofs.Judged.{Right, answered}
 use Rattle.rules.proofs.Words.{lexes, unique}
 
-pub fit : (bs : List ℕ) → (length bs ≡ 0 → ⊥) → length bs ≤ 1024 → Unfit bs → ⊥
+pub fit : (bs : List ℕ) → (length bs ≡ 0 → ⊥) → length bs ≤ text_limit → Unfit bs → ⊥
 fit bs some few (inl h) = some h
 fit bs some few (inr h) = omega arith
 
-told_is : (f : TextRefusal) → told f ≡ refuses (number f) (place f)
-told_is ShortList = refl
-told_is Length = refl
-told_is (NotAllowed p) = refl
-told_is (LongName p) = refl
-told_is (ManyTests p) = refl
-told_is (DeepBracket p) = refl
-
-pub turns_away : (bs : List ℕ) (f : TextRefusal) → (Unfit bs → ⊥) → run (lex 0 0 bs) start ≡ told f → IsRefused bs (number f) (place f)
-turns_away bs f fits e = refused fits (lexes bs) (subst (Right (lex 0 0 bs)) (e ∙ told_is f) (answered (lex 0 0 bs)))
+pub turns_away : (bs : List ℕ) (f : TextRefusal) → (Unfit bs → ⊥) → run (lex 0 0 bs) start ≡ told f → IsRefused bs (number_and_place f)
+turns_away bs f fits e = refused fits (lexes bs) (subst (Right (lex 0 0 bs)) e (answered (lex 0 0 bs)))
 
 pub accepting : (bs : List ℕ) (ns : List ParsedNode) → (Unfit bs → ⊥) → run (lex 0 0 bs) start ≡ accepts ns → Gives bs ns
 accepting bs ns fits e = gives fits (lexes bs) (subst (Right (lex 0 0 bs)) e (answered (lex 0 0 bs)))
@@ -38,13 +29,13 @@ accepting bs ns fits e = gives fits (lexes bs) (subst (Right (lex 0 0 bs)) e (an
 ------------------------------------------------------------------------
 -- a text has one answer
 
-pub gives_same : {bs : List ℕ} {ns ms : List ParsedNode} → Gives bs ns → Gives bs ms → ns ≡ ms
+gives_same : {bs : List ℕ} {ns ms : List ParsedNode} → Gives bs ns → Gives bs ms → ns ≡ ms
 gives_same {bs} {ns} {ms} (gives {ts = ts} f l a) (gives {ts = us} g k b) =
     let q : us ≡ ts = unique k ∙ sym (unique l) in
     let e : to (ended ns) ≡ to (ended ms) = sym (complete a.formed) ∙ complete (subst (λ x. Text x ms) q b.formed) in
     cc
 
-pub never_both : {bs : List ℕ} {ns : List ParsedNode} {k p : ℕ} → Gives bs ns → IsRefused bs k p → ⊥
+never_both : {bs : List ℕ} {ns : List ParsedNode} {x : ℕ × ℕ} → Gives bs ns → IsRefused bs x → ⊥
 never_both (gives f l a) (unfit u) = f u
 never_both (gives {ts = ts} f l a) (refused {ts = us} g m r) =
     let q : ts ≡ us = unique l ∙ sym (unique m) in
@@ -63,10 +54,12 @@ two_splits (x ∷ a) (y ∷ c) t u b d q =
       | inr (inr h) ↦ inr (inr (h.0, let p = h.1 in cc))
     ]
 
-first_of : {k j : ℕ} → ComesBefore k j → (k ≡ j) ⊎ ((k ≡ 11) ⊎ ((k ≡ 13) × (j ≡ 12)))
+first_of : {k j : ℕ} → ComesBefore k j → (k ≡ j) ⊎ ((k ≡ 11) ⊎ (((k ≡ 13) × (j ≡ 12)) ⊎ (((k ≡ 13) × (j ≡ 14)) ⊎ ((k ≡ 12) × (j ≡ 14)))))
 first_of same = inl refl
-first_of allowed_first = inr (inl refl)
-first_of tests_first = inr (inr (refl, refl))
+first_of not_allowed_first = inr (inl refl)
+first_of many_before_long = inr (inr (inl (refl, refl)))
+first_of many_before_deep = inr (inr (inr (inl (refl, refl))))
+first_of long_before_deep = inr (inr (inr (inr (refl, refl))))
 
 one_number : (k j : ℕ) → ComesBefore k j → ComesBefore j k → k ≡ j
 one_number k j x y = let p = first_of x in let q = first_of y in omega arith
@@ -82,34 +75,31 @@ refused_same {ts} {k} {p} {j} {q} r s =
       | inr (inr h) ↦ absurd (r.clear s.before s.at h.0 j h.1 s.offends)
     ]
 
-pub turned_same : {bs : List ℕ} {k p j q : ℕ} → IsRefused bs k p → IsRefused bs j q → (k ≡ j) × (p ≡ q)
-turned_same (unfit u) (unfit v) = (refl, refl)
+turned_same : {bs : List ℕ} {x y : ℕ × ℕ} → IsRefused bs x → IsRefused bs y → x ≡ y
+turned_same (unfit u) (unfit v) = refl
 turned_same (unfit u) (refused g m s) = absurd (g u)
 turned_same (refused f l r) (unfit v) = absurd (f v)
-turned_same (refused {ts = ts} {k = k} {p = p} f l r) (refused {ts = us} {k = j} {p = q} g m s) =
-    refused_same (subst (λ x. Refused x k p) (unique l ∙ sym (unique m)) r) s
-
-pub one_answer : OneAnswer
-one_answer = record { nodes_same = gives_same; not_both = never_both; refusal_same = turned_same }
+turned_same (refused {ts = ts} {k = k} {p = p} f l r) (refused {ts = us} g m s) =
+    let h = refused_same (subst (λ x. Refused x k p) (unique l ∙ sym (unique m)) r) s in λ i. (h.0 i, h.1 i)
 
 ------------------------------------------------------------------------
 -- and so has its reading
 
-reason_same : {bs : List ℕ} {n k p j q : ℕ} → Reason bs n k p → Reason bs n j q → (k ≡ j) × (p ≡ q)
-reason_same (short_list h) (short_list i) = (refl, refl)
-reason_same (short_list h) (by_text i r) = absurd (omega arith)
-reason_same (by_text h r) (short_list i) = absurd (omega arith)
-reason_same (by_text h r) (by_text i s) = turned_same r s
+unread_same : {bs : List ℕ} {n : ℕ} {x y : ℕ × ℕ} → Unreadable bs n x → Unreadable bs n y → x ≡ y
+unread_same (short_list h) (short_list i) = refl
+unread_same (short_list h) (by_text i r) = absurd (omega arith)
+unread_same (by_text h r) (short_list i) = absurd (omega arith)
+unread_same (by_text h r) (by_text i s) = turned_same r s
 
 read_same : {bs : List ℕ} {n : ℕ} {ns ms : List ParsedNode} → Readable bs n ns → Readable bs n ms → ns ≡ ms
 read_same g h = gives_same g.given h.given
 
-read_or_not : {bs : List ℕ} {n : ℕ} {ns : List ParsedNode} {k p : ℕ} → Readable bs n ns → Reason bs n k p → ⊥
+read_or_not : {bs : List ℕ} {n : ℕ} {ns : List ParsedNode} {x : ℕ × ℕ} → Readable bs n ns → Unreadable bs n x → ⊥
 read_or_not g (short_list h) = let few = g.enough in omega arith
 read_or_not g (by_text h r) = never_both g.given r
 
-pub read_sole : {bs : List ℕ} {n : ℕ} {ns : List ParsedNode} → Readable bs n ns → Sole (Readable bs n) (ReasonFor bs n) ns
-read_sole g = sole (λ y z. read_same) (λ y z. read_or_not) g
+pub accepts_read : {bs : List ℕ} {n : ℕ} {ns : List ParsedNode} → Readable bs n ns → Accepts bs n ns
+accepts_read g = sole (λ y z. read_same) (λ y z. read_or_not) g
 
-pub unread_sole : {bs : List ℕ} {n k p : ℕ} → Reason bs n k p → Sole (ReasonFor bs n) (Readable bs n) (k, p)
-unread_sole r = sole (λ y z g h. let e = reason_same g h in λ j. (e.0 j, e.1 j)) (λ y z q g. read_or_not g q) r
+pub refuses_unread : {bs : List ℕ} {n : ℕ} (f : TextRefusal) → Unreadable bs n (number_and_place f) → Refuses bs n f
+refuses_unread f r = sole (λ y z. unread_same) (λ y z q g. read_or_not g q) r

@@ -1,6 +1,7 @@
 -- The loops of the readers, and how their steps join. Assumes nothing.
 use Rattle.std.proofs.lemmas.Bool.{eqb-false}
-use Rattle.rules.specs.Refusals.{number, place}
+use Rattle.rules.specs.Limits.{text_limit, bracket_limit}
+use Rattle.rules.specs.Refusals.{number_and_place}
 use Rattle.std.proofs.Common.{false, eqb, ◌<◌, ◌≤◌, inl, inr, ◌≡◌, ℕ, ◌+◌, ◌-◌, List, [], ◌∷◌, length, sym, refl, ap, ◌∙◌, subst, rules}
 use Rattle.std.specs.List.{AllByRecursion}
 use Rattle.rules.specs.declared.reader.Reader.{Reader}
@@ -46,10 +47,10 @@ further_fails {x = x} {w = w} {edge = edge} {edge' = edge'} {last = last} n room
 -- the whole text
 
 -- what the text is refused for, from the number of its bytes
-pub empty_fails : (bs : List ℕ) → length bs ≡ 0 → IsRefused bs 10 0
+pub empty_fails : (bs : List ℕ) → length bs ≡ 0 → IsRefused bs (10, 0)
 empty_fails bs h = unfit (inl h)
 
-pub long_fails : (bs : List ℕ) → 1024 < length bs → IsRefused bs 10 0
+pub long_fails : (bs : List ℕ) → text_limit < length bs → IsRefused bs (10, 0)
 long_fails bs h = unfit (inr h)
 
 -- a token that is not the last stands before those that are left behind it
@@ -63,7 +64,7 @@ pub record Stepped (bs : List ℕ) (y : Reader) : Type 0 where
   pub stops : Unopened (front (left y))
   pub leads : (n : ℕ) × (run (lex 0 0 bs) start ≡ run (left y) (after n [] (made y)))
 
-module _ (bs : List ℕ) (e : Reader) (new : Fresh bs e) (some : false ≡ eqb (length bs) 0) (few : length bs ≤ 1024) where
+module _ (bs : List ℕ) (e : Reader) (new : Fresh bs e) (some : false ≡ eqb (length bs) 0) (few : length bs ≤ text_limit) where
   fits : Unfit bs → ⊥
   fits = fit bs (eqb-false _ 0 (sym some)) few
 
@@ -71,7 +72,7 @@ module _ (bs : List ℕ) (e : Reader) (new : Fresh bs e) (some : false ≡ eqb (
   all_left i = from (sym new.whole i) (sym new.front i)
 
   -- no text begins with another token
-  pub start_fails : (f : TextRefusal) → Unexpected e DoubleSlash f → IsRefused bs (number f) (place f)
+  pub start_fails : (f : TextRefusal) → Unexpected e DoubleSlash f → IsRefused bs (number_and_place f)
   start_fails f h =
       let here : run (left e) start ≡ told f = search rules in
       turns_away bs f fits (ap (λ ts. run ts start) all_left ∙ here)
@@ -87,10 +88,10 @@ module _ (bs : List ℕ) (e : Reader) (new : Fresh bs e) (some : false ≡ eqb (
         let nothing : [] ≡ made x = sym (p.made_same ∙ new.none) in
         record { nodes_are = nothing; moves_on = λ t _. ap (λ ns. on_test t.kind (with_node 0 Child [] ns t)) nothing }
 
-    pub step_fails : (f : TextRefusal) → StepFails x 0 Child 16 f → IsRefused bs (number f) (place f)
+    pub step_fails : (f : TextRefusal) → StepFails x 0 Child bracket_limit f → IsRefused bs (number_and_place f)
     step_fails f s = turns_away bs f fits (to_root ∙ s [] root refl at_root)
 
-    pub stepped : (y : Reader) (n : ℕ) → StepRead x y 0 Child 16 n → Stepped bs y
+    pub stepped : (y : Reader) (n : ℕ) → StepRead x y 0 Child bracket_limit n → Stepped bs y
     stepped y n s = record { fits = fits; same = s.kept.same ∙ p.same ∙ new.whole; stops = s.stops; leads = (n, to_root ∙ s.leads [] root refl at_root) }
 
 pub parses : {bs : List ℕ} {y z : Reader} → Stepped bs y → Expected y z End → Parses bs (made z)
@@ -117,7 +118,7 @@ only_end Name n ns u r = refl
 only_end Stray n ns u r = refl
 only_end End n ns u r = absurd (r refl)
 
-pub end_fails : (bs : List ℕ) (y : Reader) (f : TextRefusal) → Stepped bs y → Unexpected y End f → IsRefused bs (number f) (place f)
+pub end_fails : (bs : List ℕ) (y : Reader) (f : TextRefusal) → Stepped bs y → Unexpected y End f → IsRefused bs (number_and_place f)
 end_fails bs y f s h =
     let t = h.token in
     let n = s.leads.0 in

@@ -6,8 +6,10 @@ use Rattle.rules.specs.declared.syntax.Kind.{Kind}
 use Rattle.rules.specs.declared.syntax.Kind.TheVariants.{DoubleSlash, Slash, Dot, Open, Close, Star, Name, Stray, End}
 use Rattle.rules.specs.declared.syntax.Token.{Token}
 use Rattle.rules.specs.declared.syntax.ParsedNode.{ParsedNode}
+use Rattle.labels.specs.Spelling.{name_limit}
+use Rattle.rules.specs.Limits.{node_limit, bracket_limit}
 use Rattle.rules.specs.Grammar.{Test, name, star, Begins}
-use Rattle.rules.specs.Reading.{RefusalsFollowBeginnings, is_test, is_open, is_close, count, Offends, not_allowed, many_tests, long_name, deep_bracket, Clear, ComesBefore, same, allowed_first, tests_first, Accepted, Refused}
+use Rattle.rules.specs.Reading.{is_test, is_open, is_close, count, Offends, not_allowed, many_tests, long_name, deep_bracket, Clear, ComesBefore, same, not_allowed_first, many_before_long, Accepted, Refused}
 use Rattle.rules.specs.Machine.{State, start, root, after, opened, dotted, below, more, ended, Moved, to, stuck, on_double, on_test, on_path, on_after, move, moves, Answer, accepts, refuses, unfinished, nodes, depth, over, go, excess, run}
 use Rattle.rules.proofs.Machine.{sound, begins, begins_not, moves_append, no_move}
 
@@ -134,11 +136,11 @@ module _ (before : List Token) (t : Token) (s : State) (tally : Tally before s) 
   first_tests : Begins (before ++ (t ∷ [])) → Test t → (j : ℕ) → Offends before t j → ComesBefore 13 j
   first_tests b q j (not_allowed h) = absurd (h b)
   first_tests b q j (many_tests r h) = same
-  first_tests b q j (long_name r h) = tests_first
+  first_tests b q j (long_name r h) = many_before_long
   first_tests b (name q) j (deep_bracket r h) = name_open t.kind q r
   first_tests b (star q) j (deep_bracket r h) = star_open t.kind q r
 
-  first_name : Begins (before ++ (t ∷ [])) → t.kind ≡ Name → length (nodes s) < 64 → (j : ℕ) → Offends before t j → ComesBefore 12 j
+  first_name : Begins (before ++ (t ∷ [])) → t.kind ≡ Name → length (nodes s) < node_limit → (j : ℕ) → Offends before t j → ComesBefore 12 j
   first_name b q few j (not_allowed h) = absurd (h b)
   first_name b q few j (many_tests r h) = let m = tally.tests in absurd (omega arith)
   first_name b q few j (long_name r h) = same
@@ -155,26 +157,26 @@ module _ (before : List Token) (t : Token) (s : State) (tally : Tally before s) 
   worst_star b q k e =
       let m = tally.tests in
       let is : 13 ≡ suc k = grind (arith, nat_tests) in
-      let far : 64 ≤ length (nodes s) = grind (arith, nat_tests) in
+      let far : node_limit ≤ length (nodes s) = grind (arith, nat_tests) in
       subst Worst is (record { offends = many_tests (star q) (omega arith); foremost = first_tests b (star q) })
 
   worst_open : Begins (before ++ (t ∷ [])) → t.kind ≡ Open → (k : ℕ) → over Open t.len (length (nodes s)) (depth s) ≡ suc k → Worst (suc k)
   worst_open b q k e =
       let m = tally.brackets in
       let is : 14 ≡ suc k = grind (arith, nat_tests) in
-      let far : 16 ≤ depth s = grind (arith, nat_tests) in
+      let far : bracket_limit ≤ depth s = grind (arith, nat_tests) in
       subst Worst is (record { offends = deep_bracket q (omega arith); foremost = first_open b q })
 
   worst_name : Begins (before ++ (t ∷ [])) → t.kind ≡ Name → (k : ℕ) → over Name t.len (length (nodes s)) (depth s) ≡ suc k → Worst (suc k)
   worst_name b q k e =
       let m = tally.tests in
-      let which : ((13 ≡ suc k) × (64 ≤ length (nodes s))) ⊎ ((12 ≡ suc k) × (length (nodes s) < 64) × (32 < t.len)) = pick (length (nodes s)) t.len k e in
+      let which : ((13 ≡ suc k) × (node_limit ≤ length (nodes s))) ⊎ ((12 ≡ suc k) × (length (nodes s) < node_limit) × (name_limit < t.len)) = pick (length (nodes s)) t.len k e in
       elim which [
         | inl h ↦ subst Worst h.0 (record { offends = many_tests (name q) (omega (arith, h.1)); foremost = first_tests b (name q) })
         | inr h ↦ subst Worst h.0 (record { offends = long_name q h.2; foremost = first_name b q h.1 })
       ]
     where
-      pick : (n l k : ℕ) → cond (leb 64 n) 13 (cond (ltb 32 l) 12 0) ≡ suc k → ((13 ≡ suc k) × (64 ≤ n)) ⊎ ((12 ≡ suc k) × (n < 64) × (32 < l))
+      pick : (n l k : ℕ) → cond (leb node_limit n) 13 (cond (ltb name_limit l) 12 0) ≡ suc k → ((13 ≡ suc k) × (node_limit ≤ n)) ⊎ ((12 ≡ suc k) × (n < node_limit) × (name_limit < l))
       pick n l k e = grind (arith, nat_tests)
 
   worst : Begins (before ++ (t ∷ [])) → (j : Kind) → t.kind ≡ j → (k : ℕ) → over j t.len (length (nodes s)) (depth s) ≡ suc k → Worst (suc k)
@@ -236,9 +238,10 @@ next t ts before s h ih stuck e x q =
       rest = ts;
       splits = refl;
       place = refl;
+      begun = begins before s h.moved;
       clear = h.clear;
       offends = not_allowed (begins_not _ (moved_one before t s h.moved ∙ e));
-      foremost = λ j o. allowed_first;
+      foremost = λ j o. not_allowed_first;
     }
 next t ts before s h ih (to u) e zero q =
     let there = moved_one before t s h.moved ∙ e in
@@ -258,6 +261,7 @@ next t ts before s h ih (to u) e (suc k) q =
       rest = ts;
       splits = refl;
       place = refl;
+      begun = begins before s h.moved;
       clear = h.clear;
       offends = w.offends;
       foremost = w.foremost;
@@ -282,19 +286,3 @@ clear_none (x ∷ a) t b k e o = absurd (omega (arith, ap length e))
 
 pub answered : (ts : List Token) → Right ts (run ts start)
 answered ts = answer ts [] start (record { moved = refl; clear = clear_none; tally = record { tests = refl; brackets = refl } })
-
--- tokens of which none offends begin a rule text
-clear_begins_from : (ts before : List Token) (s : State) → moves before (to start) ≡ to s → Clear (before ++ ts) → Begins (before ++ ts)
-clear_begins_from [] before s e c = subst Begins (sym (append-nil before)) (begins before s e)
-clear_begins_from (t ∷ ts) before s e c = go (move s t) refl (λ a u h d. clear_begins_from ts a u h d)
-  where
-    go : (m : Moved) → move s t ≡ m
-        → ((a : List Token) (u : State) → moves a (to start) ≡ to u → Clear (a ++ ts) → Begins (a ++ ts))
-        → Begins (before ++ (t ∷ ts))
-    go stuck q ih = absurd (c before t ts 11 refl (not_allowed (begins_not _ (moved_one before t s e ∙ q))))
-    go (to u) q ih =
-        let same : (before ++ (t ∷ [])) ++ ts ≡ before ++ (t ∷ ts) = append_assoc before (t ∷ []) ts in
-        subst Begins same (ih (before ++ (t ∷ [])) u (moved_one before t s e ∙ q) (subst Clear (sym same) c))
-
-pub refusals_begun : RefusalsFollowBeginnings
-refusals_begun ts k p r = clear_begins_from r.before [] start refl r.clear

@@ -15,7 +15,7 @@ use Rattle.rules.specs.declared.records.UnknownEdge.{UnknownEdge}
 use Rattle.rules.specs.Limits.{node_limit}
 use Rattle.rules.specs.Rule.{blank, is_child, Rooted, Ordered}
 use Rattle.rules.proofs.Selects.{slice_get_within}
-use Rattle.rules.specs.Exact.{Sole}
+use Rattle.labels.specs.Exact.{Sole}
 use Rattle.rules.proofs.Sole.{sole}
 use Rattle.rules.specs.Records.{EdgeByte, child, descendant, EdgeFrom, AnyByte, named, any, Hangs, root, under, Writes, writes, RecordWrites, RecordAt, Whole, Recorded, RecordReason, size, bad}
 

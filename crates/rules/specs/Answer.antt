@@ -14,7 +14,7 @@ Unfit bs = (length bs ≡ 0) ⊎ (text_limit < length bs)
 pub data Gives (bs : List ℕ) (ns : List ParsedNode) : Type 0 where
   gives : {ts : List Token} → (Unfit bs → ⊥) → Lexes 0 bs ts → Accepted ts ns → Gives bs ns
 
--- the rule text bs is refused with the number k at the place p
-pub data IsRefused (bs : List ℕ) : ℕ → ℕ → Type 0 where
-  unfit : Unfit bs → IsRefused bs 10 0
-  refused : {ts : List Token} {k p : ℕ} → (Unfit bs → ⊥) → Lexes 0 bs ts → Refused ts k p → IsRefused bs k p
+-- the rule text bs is refused with a number at a place
+pub data IsRefused (bs : List ℕ) : ℕ × ℕ → Type 0 where
+  unfit : Unfit bs → IsRefused bs (10, 0)
+  refused : {ts : List Token} {k p : ℕ} → (Unfit bs → ⊥) → Lexes 0 bs ts → Refused ts k p → IsRefused bs (k, p)

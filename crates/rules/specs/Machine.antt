@@ -7,8 +7,10 @@ use Rattle.rules.specs.declared.syntax.Token.{Token}
 use Rattle.rules.specs.declared.node.Edge.{Edge}
 use Rattle.rules.specs.declared.node.Edge.TheVariants.{Child, Descendant}
 use Rattle.rules.specs.declared.syntax.ParsedNode.{ParsedNode}
+use Rattle.rules.specs.Lexing.{a_token}
 use Rattle.rules.specs.Grammar.{node}
-use Rattle.labels.specs.Spelling.{white, starts, inside}
+use Rattle.rules.specs.Limits.{node_limit, bracket_limit}
+use Rattle.labels.specs.Spelling.{white, starts, inside, name_limit}
 
 -- What was read last. n is the step to which what follows belongs, outer are the steps with open
 -- predicates, ns the rule nodes so far.
@@ -103,9 +105,9 @@ depth (ended ns) = 0
 
 -- the number of the limit that a token passes, or 0
 abbrev pub over : Kind → ℕ → ℕ → ℕ → ℕ
-over Open long tests deep = cond (nat_le 16 deep) 14 0
-over Star long tests deep = cond (nat_le 64 tests) 13 0
-over Name long tests deep = cond (nat_le 64 tests) 13 (cond (nat_lt 32 long) 12 0)
+over Open long tests deep = cond (nat_le bracket_limit deep) 14 0
+over Star long tests deep = cond (nat_le node_limit tests) 13 0
+over Name long tests deep = cond (nat_le node_limit tests) 13 (cond (nat_lt name_limit long) 12 0)
 over _ long tests deep = 0
 
 abbrev pub go : Moved → ℕ → ℕ → (State → Answer) → Answer
@@ -154,9 +156,6 @@ kind_of b bs = cond (starts b) Name (cond (b == 47) (slashes bs) (mark b))
 abbrev pub extra : ℕ → List ℕ → ℕ
 extra b bs = cond (starts b) (span bs) (cond (b == 47) (second bs) 0)
 
-abbrev pub a_token : Kind → ℕ → ℕ → Token
-a_token k p n = record { kind = k; place = p; len = n }
-
 -- the tokens from the place p on, where the first `skip` bytes belong to the token before
 abbrev pub lex : ℕ → ℕ → List ℕ → List Token
 lex skip p [] = a_token End p 0 ∷ []
@@ -166,10 +165,10 @@ lex (suc k) p (b ∷ bs) = lex k (p + 1) bs
 abbrev pub from : List ℕ → ℕ → List Token
 from bs p = lex 0 p (drop p bs)
 
--- t is the first token from the place `at` on
+-- t is the first token from the place `at` on, which is the end where the place is past the text
 pub record Next (bs : List ℕ) (at : ℕ) (t : Token) : Type 0 where
   pub late : at ≤ t.place
-  pub within : t.place + t.len ≤ length bs
+  pub within : at ≤ length bs → t.place + t.len ≤ length bs
   pub some : (t.kind ≢ End) → 0 < t.len
   pub on : (t.kind ≢ End) → from bs at ≡ t ∷ from bs (t.place + t.len)
   pub done : t.kind ≡ End → from bs at ≡ t ∷ []

@@ -4,16 +4,17 @@ use Rattle.std.specs.List.{AllByRecursion}
 use Rattle.rules.specs.declared.syntax.Kind.TheVariants.{Name}
 use Rattle.rules.specs.declared.syntax.ParsedNode.{ParsedNode}
 use Rattle.rules.specs.declared.refusal.TextRefusal.{TextRefusal}
-use Rattle.rules.specs.Refusals.{number, place}
+use Rattle.labels.specs.Spelling.{name_limit}
+use Rattle.rules.specs.Refusals.{number_and_place}
 use Rattle.rules.specs.Answer.{Gives, IsRefused}
 
 -- the test of a rule node stands in the bytes, and a name is not too long
 abbrev pub Lies : List ℕ → ParsedNode → Type 0
-Lies bs n = (n.test.place + n.test.len ≤ length bs) × (n.test.kind ≡ Name → n.test.len ≤ 32)
+Lies bs n = (n.test.place + n.test.len ≤ length bs) × (n.test.kind ≡ Name → n.test.len ≤ name_limit)
 
 pub record Parses (bs : List ℕ) (ns : List ParsedNode) : Type 0 where
   pub reads : Gives bs ns
   pub lie : AllByRecursion (Lies bs) ns
 
 abbrev pub ParseFails : List ℕ → TextRefusal → Type 0
-ParseFails bs f = IsRefused bs (number f) (place f)
+ParseFails bs f = IsRefused bs (number_and_place f)

@@ -7,18 +7,14 @@ use Rattle.rules.specs.declared.node.Edge.{Edge}
 use Rattle.rules.specs.declared.node.Edge.TheVariants.{Child, Descendant}
 use Rattle.rules.specs.declared.syntax.ParsedNode.{ParsedNode}
 use Rattle.rules.specs.declared.refusal.TextRefusal.{TextRefusal}
-use Rattle.rules.specs.declared.refusal.TextRefusal.TheVariants.{ShortList, Length, NotAllowed, LongName, ManyTests, DeepBracket}
+use Rattle.rules.specs.declared.refusal.TextRefusal.TheVariants.{NotAllowed}
 use Rattle.rules.specs.declared.reader.Reader.{Reader}
+use Rattle.rules.specs.Refusals.{number, place}
 use Rattle.rules.specs.Limits.{bracket_limit}
 use Rattle.rules.specs.Machine.{State, after, opened, below, more, Answer, refuses, on_test, with_node, move, nodes, run, from, Next}
 
 abbrev pub told : TextRefusal → Answer
-told ShortList = refuses 17 0
-told Length = refuses 10 0
-told (NotAllowed p) = refuses 11 p
-told (LongName p) = refuses 12 p
-told (ManyTests p) = refuses 13 p
-told (DeepBracket p) = refuses 14 p
+told f = refuses (number f) (place f)
 
 abbrev pub bytes : Reader → List ℕ
 bytes r = r.text.now

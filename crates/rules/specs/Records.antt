@@ -11,7 +11,7 @@ use Rattle.rules.specs.declared.rule.Rule.{Rule}
 use Rattle.rules.specs.Limits.{node_limit}
 use Rattle.rules.specs.Nodes.{rule_nodes}
 use Rattle.rules.specs.Refusals.{number_and_record}
-use Rattle.rules.specs.Exact.{Sole}
+use Rattle.labels.specs.Exact.{Sole}
 
 pub data EdgeByte : ℕ → Edge → Type 0 where
   child : EdgeByte 0 Child

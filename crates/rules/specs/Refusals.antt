@@ -6,22 +6,20 @@ use Rattle.rules.specs.declared.refusal.RecordRefusal.TheVariants.{Size, Bad}
 use Rattle.rules.specs.declared.refusal.TextRefusal.{TextRefusal}
 use Rattle.rules.specs.declared.refusal.TextRefusal.TheVariants.{ShortList, Length, NotAllowed, LongName, ManyTests, DeepBracket}
 
--- the number of each refusal, and its place
+-- the number of each refusal of a text, and its place
+abbrev pub number_and_place : TextRefusal → ℕ × ℕ
+number_and_place ShortList = (17, 0)
+number_and_place Length = (10, 0)
+number_and_place (NotAllowed p) = (11, p)
+number_and_place (LongName p) = (12, p)
+number_and_place (ManyTests p) = (13, p)
+number_and_place (DeepBracket p) = (14, p)
+
 abbrev pub number : TextRefusal → ℕ
-number ShortList = 17
-number Length = 10
-number (NotAllowed p) = 11
-number (LongName p) = 12
-number (ManyTests p) = 13
-number (DeepBracket p) = 14
+number f = (number_and_place f).0
 
 abbrev pub place : TextRefusal → ℕ
-place ShortList = 0
-place Length = 0
-place (NotAllowed p) = p
-place (LongName p) = p
-place (ManyTests p) = p
-place (DeepBracket p) = p
+place f = (number_and_place f).1
 
 -- the number of each refusal of records, and the record that it names
 abbrev pub number_and_record : RecordRefusal → ℕ × Option ℕ

@@ -1,5 +1,5 @@
 // The tokens of a rule text. Text and place go in, since tokens and refusals tell places: a cursor over both would be no plainer.
-ghost use Rattle.std.specs.Prelude.{◌≡◌, ◌<◌, ◌≤◌, false, length, MatchOption, slice_index};
+ghost use Rattle.std.specs.Prelude.{◌≡◌, ◌<◌, ◌≤◌, false, length, drop, MatchOption, slice_index};
 ghost use Rattle.labels.specs.Spelling.{white, starts, byte, Named};
 ghost use Rattle.rules.specs.Machine.{Next};
 
@@ -16,15 +16,21 @@ fn name_stop(text: &[u8], place: usize) -> Option<usize>
     }
 }
 
+// The bytes from the place on, which are none past the end.
+fn rest(text: &[u8], place: usize) -> &[u8]
+    ensures { result.now ≡ drop place text.now }
+{
+    text.get(place..).unwrap_or(&[])
+}
+
 // The token at a place that is no white space; at the end of the text it is the end.
 fn token_at(text: &[u8], place: usize) -> Token
-    requires within { place ≤ length text.now }
     requires seen { place < length text.now → white (slice_index text.now place) ≡ false }
     ensures { Next text.now place result }
 {
     let (kind, len) = match name_stop(text, place) {
         Some(end) => (Kind::Name, end - place),
-        None => match &text[place..] {
+        None => match rest(text, place) {
             [] => (Kind::End, 0),
             [b'/', b'/', ..] => (Kind::DoubleSlash, 2),
             [b'/', ..] => (Kind::Slash, 1),
@@ -38,9 +44,8 @@ fn token_at(text: &[u8], place: usize) -> Token
     Token { kind, place, len }
 }
 
-// The first token from `at` on.
+// The first token from `at` on; past the text it is the end.
 pub fn next_token(text: &[u8], at: usize) -> Token
-    requires { at ≤ length text.now }
     ensures { Next text.now at result }
 {
     token_at(text, white_end(text, at))

@@ -1,5 +1,6 @@
 // The value of a rule.
 ghost use Rattle.std.specs.Prelude.{◌<◌, ◌≤◌, length, take};
+ghost use Rattle.rules.specs.Limits.{node_limit};
 ghost use Rattle.rules.specs.Rule.{Rooted, Ordered};
 
 use crate::node::RuleNode;
@@ -15,7 +16,7 @@ pub struct Rule {
     pub(crate) nodes: [RuleNode; RULE_NODES],
     pub(crate) len: usize,
     ghost some: { 0 < length (take len nodes) },
-    ghost few: { len ≤ 64 },
+    ghost few: { len ≤ node_limit },
     ghost rooted: { Rooted (take len nodes) },
     ghost ordered: { Ordered (take len nodes) },
 }

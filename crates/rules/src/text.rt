@@ -5,8 +5,8 @@ ghost use Rattle.rules.specs.Parsing.{Lies};
 ghost use Rattle.rules.specs.Rule.{Rooted, Ordered};
 ghost use Rattle.rules.specs.Nodes.{rule_nodes};
 ghost use Rattle.rules.specs.Expression.{rule_nodes_of};
-ghost use Rattle.rules.specs.Naming.{NamesIn, ReadInto, Reason, Unread, OnlyRule, Unreadable};
-ghost use Rattle.rules.specs.Refusals.{number, place};
+ghost use Rattle.rules.specs.Limits.{node_limit};
+ghost use Rattle.rules.specs.Naming.{NamesIn, ReadInto, Unread, Refuses};
 
 use crate::node::RuleNode;
 use crate::reader::parse;
@@ -32,7 +32,7 @@ impl From<ParsedNode> for RuleNode {
 // The rule with these rule nodes.
 fn rule_of(nodes: &[ParsedNode]) -> Rule
     requires some { 0 < length nodes.now }
-    requires few { length nodes.now ≤ 64 }
+    requires few { length nodes.now ≤ node_limit }
     requires rooted { Rooted (rule_nodes_of nodes.now) }
     requires ordered { Ordered (rule_nodes_of nodes.now) }
     ensures { rule_nodes result ≡ rule_nodes_of nodes.now }
@@ -66,8 +66,7 @@ fn write_names<N: NameLabel>(text: &[u8], nodes: &[ParsedNode], names: &mut [N])
 
 // The rule of a rule text; the names of its named rule nodes go into `names` at their numbers.
 fn read<N: NameLabel>(text: &[u8], names: &mut [N]) -> Result<Rule, TextRefusal>
-    ensures read { MatchResult result (λ rule. ReadInto N.eq N.spelled N.alike text.now rule names.old names.new) (λ f. Reason text.now (length names.old) (number f) (place f) × (names.new ≡ names.old)) }
-    ensures only { MatchResult result (OnlyRule text.now (length names.old)) (Unreadable text.now (length names.old)) }
+    ensures { MatchResult result (λ rule. ReadInto N.eq N.spelled N.alike text.now rule names.old names.new) (λ f. Refuses text.now (length names.old) f × (names.new ≡ names.old)) }
 {
     if names.len() < RULE_NODES {
         return Err(TextRefusal::ShortList);
@@ -86,8 +85,7 @@ impl Rule {
         text: &[u8],
         names: &mut [N],
     ) -> Result<(), TextRefusal>
-        ensures read { MatchResult result (λ _. ReadInto N.eq N.spelled N.alike text.now self.new names.old names.new) (λ f. Unread text.now f self.old self.new names.old names.new) }
-        ensures only { MatchResult result (λ _. OnlyRule text.now (length names.old) self.new) (Unreadable text.now (length names.old)) }
+        ensures { MatchResult result (λ _. ReadInto N.eq N.spelled N.alike text.now self.new names.old names.new) (λ f. Unread text.now f self.old self.new names.old names.new) }
     {
         *self = read(text, names)?;
         Ok(())
