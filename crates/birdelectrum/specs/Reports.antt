@@ -2,7 +2,7 @@
 use Rattle.std.specs.Prelude.{ℕ, ◌<◌, ◌≤◌, List, length, take, Err}
 use Rattle.rules.specs.declared.refusal.TextRefusal.{TextRefusal}
 use Rattle.rules.specs.declared.syntax.ParsedNode.{ParsedNode}
-use Rattle.rules.specs.Refusals.{number, place}
+use Rattle.rules.specs.Refusals.{number_and_place}
 use Rattle.rules.specs.Answer.{Gives, IsRefused}
 use Rattle.birdelectrum.specs.declared.refusal.Refusal.{Refusal}
 use Rattle.birdelectrum.specs.declared.refusal.Refusal.TheVariants.{Input, Rule}
@@ -12,7 +12,7 @@ use Rattle.birdelectrum.specs.Parts.{Splits}
 -- An input that is too long, and a rule text that is refused.
 pub data Bad (bs : List ℕ) : Refusal → Type 0 where
   too_long : 65536 < length bs → Bad bs Input
-  bad_rule : (n : ℕ) (f : TextRefusal) → length bs ≤ 65536 → Splits bs n → IsRefused (take n bs) (number f) (place f) → Bad bs (Rule f)
+  bad_rule : (n : ℕ) (f : TextRefusal) → length bs ≤ 65536 → Splits bs n → IsRefused (take n bs) (number_and_place f) → Bad bs (Rule f)
 
 -- An input of the right length whose first line is a rule text
 pub data Fine (bs : List ℕ) : Type 0 where

@@ -11,7 +11,7 @@ use Rattle.rules.specs.Answer.{Unfit, Gives, gives, IsRefused, unfit, refused}
 use Rattle.rules.specs.Naming.{Readable, Unreadable, short_list, by_text, Accepts, Refuses}
 use Rattle.rules.proofs.Sole.{sole}
 use Rattle.rules.proofs.Machine.{complete}
-use Rattle.rules.specs.Machine.{start, ended, to, accepts, refuses, lex, run}
+use Rattle.rules.specs.Machine.{start, ended, to, accepts, lex, run}
 use Rattle.rules.specs.Readers.{told}
 use Rattle.rules.proofs.Judged.{Right, answered}
 use Rattle.rules.proofs.Words.{lexes, unique}

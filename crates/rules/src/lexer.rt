@@ -45,6 +45,7 @@ fn token_at(text: &[u8], place: usize) -> Token
 }
 
 // The first token from `at` on; past the text it is the end.
+#[tactic(auto, using(crate::proofs::Lexes::white_behind))]
 pub fn next_token(text: &[u8], at: usize) -> Token
     ensures { Next text.now at result }
 {

@@ -12,10 +12,10 @@ returns-in_err-read_text c =
     let f = c.in_err-read_text.field-0.0 in
     let is : c.from_residual.result ≡ Err (refusal.Rule f) = search rules in
     let bad = rule_refused c.args.input.now c.line_end-end.result
-    c.in_err-read_text.ensures.read (omega arith) c.if-input-gt-INPUT.false c.line_end-end.ensures in
+    c.in_err-read_text.ensures (omega arith) c.if-input-gt-INPUT.false c.line_end-end.ensures in
     subst (λ r. MatchResult r (λ x. Fine c.args.input.now) (Bad c.args.input.now)) (sym is) bad
 
 pub returns : goal.returns
 returns c =
-    let read = c.in_ok-read_text.ensures.read in
-    Fine.fine c.line_end-end.result read.nodes c.if-input-gt-INPUT.false c.line_end-end.ensures read.given
+    let read = c.in_ok-read_text.ensures in
+    Fine.fine c.line_end-end.result read.nodes c.if-input-gt-INPUT.false c.line_end-end.ensures read.accepted.holds.given
