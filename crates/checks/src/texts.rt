@@ -2,6 +2,7 @@
 use labels::name::{Name, NameRefusal};
 use rules::refusal::TextRefusal;
 use rules::rule::Rule;
+use std::test::Fail;
 
 // How many rule nodes the text gives.
 fn count(text: &[u8]) -> Result<usize, TextRefusal> {
@@ -84,6 +85,30 @@ fn long_last_test(rt: HostRuntime) {
     assert_eq!(rt; count(&text), Err(TextRefusal::ManyTests(193)));
 }
 
+// At one place what is not allowed comes before the limits: a 65th test, a long name and a 17th bracket.
+#[test]
+fn not_allowed_comes_first(rt: HostRuntime) {
+    let mut text = [b'n'; 226];
+    write_tests(&mut text[..192]);
+    text[192] = b' ';
+    assert_eq!(rt; count(&text[0..194]), Err(TextRefusal::NotAllowed(193)));
+    assert_eq!(rt; count(&text), Err(TextRefusal::NotAllowed(193)));
+    assert_eq!(rt;
+        count(b"//a[a[a[a[a[a[a[a[a[a[a[a[a[a[a[a[[a"),
+        Err(TextRefusal::NotAllowed(34))
+    );
+}
+
+// The lowest place comes first, whatever stands behind it.
+#[test]
+fn lowest_place_comes_first(rt: HostRuntime) {
+    assert_eq!(rt; count(b"//a[b]]//"), Err(TextRefusal::NotAllowed(6)));
+    assert_eq!(rt;
+        count(b"//nnnnnnnnnnnnnnnnnnnnnnnnnnnnnnnnn["),
+        Err(TextRefusal::LongName(2))
+    );
+}
+
 #[test]
 fn brackets(rt: HostRuntime) {
     assert_eq!(rt;
@@ -94,6 +119,20 @@ fn brackets(rt: HostRuntime) {
         count(b"//a[a[a[a[a[a[a[a[a[a[a[a[a[a[a[a[a[a]]]]]]]]]]]]]]]]]"),
         Err(TextRefusal::DeepBracket(35))
     );
+}
+
+// A text and records give the same rule nodes, and a refused text leaves them.
+#[test]
+fn texts_and_records(rt: HostRuntime) -> Result<(), Fail> {
+    let mut read = Rule::new();
+    let mut set = Rule::new();
+    let mut names = [Name::empty(); 64];
+    read.read_text(b"//a[.//*[b]//c]", &mut names)?;
+    set.set_records(&[0, 0, 0, 0, 1, 1, 1, 0, 0, 1, 1, 0])?;
+    assert_eq!(rt; read.nodes(), set.nodes());
+    assert!(rt; read.read_text(b"//a[", &mut names).is_err());
+    assert_eq!(rt; read.nodes(), set.nodes());
+    Ok(())
 }
 
 // The names that reading leaves in a list of names `old`, by their first bytes.
@@ -121,6 +160,10 @@ fn short_list(rt: HostRuntime) {
     let mut names = [Name::empty(); 63];
     assert_eq!(rt;
         rule.read_text(b"//a", &mut names),
+        Err(TextRefusal::ShortList)
+    );
+    assert_eq!(rt;
+        rule.read_text(b"", &mut names),
         Err(TextRefusal::ShortList)
     );
 }

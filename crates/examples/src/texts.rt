@@ -1,4 +1,4 @@
-// Rule texts.
+// Rules from texts and from records.
 use labels::name::Name;
 use rules::rule::{RULE_NODES, Rule};
 use std::io;
@@ -16,6 +16,18 @@ fn show_text(rt: &impl Print, text: &str) -> io::Result<()> {
     }
 }
 
+// Sets a rule from the records, and prints how many rule nodes it has then, or the refusal.
+fn show_records(rt: &impl Print, records: &[u8]) -> io::Result<()> {
+    let mut rule = Rule::new();
+    match rule.set_records(records) {
+        Ok(()) => {
+            let count = rule.nodes().len();
+            println!(rt; "records {records:?}: {count} rule nodes")
+        }
+        Err(refusal) => println!(rt; "records {records:?}: refused {refusal}"),
+    }
+}
+
 pub fn show(rt: &impl Print) -> io::Result<()> {
     show_text(rt, "//a[b][.//c]")?;
     show_text(rt, " // a [ b.//c / * ] ")?;
@@ -24,5 +36,8 @@ pub fn show(rt: &impl Print) -> io::Result<()> {
     show_text(rt, "/a")?;
     show_text(rt, "//a[./b]")?;
     show_text(rt, "")?;
-    show_text(rt, "//abcdefghijklmnopqrstuvwxyz_123456")
+    show_text(rt, "//abcdefghijklmnopqrstuvwxyz_123456")?;
+    show_records(rt, &[0, 0, 0, 0, 1, 1])?;
+    show_records(rt, &[0, 0, 0, 0, 1])?;
+    show_records(rt, &[0, 0, 0, 1, 0, 0])
 }

@@ -13,7 +13,7 @@ use Rattle.std.proofs.Math.Nat.{pow-zero, pow-le-pow_right}
 use Rattle.std.proofs.lemmas.List.{length-append, length_push, take_at, drop_at, same_from_push, drop-drop, take-append-drop, take_rest, take_all, length-take-le, length-drop}
 use Rattle.labels.specs.declared.name.Name.{Name}
 use Rattle.labels.specs.declared.name.NameRefusal.{NameRefusal}
-use Rattle.labels.specs.Names.{fixed, bytes_of, written, word_of, name_of, MadeFrom, Naming}
+use Rattle.labels.specs.Names.{fixed, bytes_of, written, word_of, name_of, MadeFrom, Naming, MakingInverse}
 
 pub length_fixed : (n w : ℕ) → length (fixed n w) ≡ n
 length_fixed zero w = refl
@@ -303,3 +303,10 @@ made_from bs n e = record { holds = e; only = λ m h. bytes_one m n (h ∙ sym e
 pub made_or_empty : (bs : List ℕ) (answer : Result Name NameRefusal) (n : Name) → Naming bs answer → bytes_of n ≡ [] → bytes_of (result_unwrap_or answer n) ≡ kept_name bs
 made_or_empty bs (Ok m) n h e = h.holds ∙ sym (kept_short bs (few_bytes bs m h.holds))
 made_or_empty bs (Err f) n h e = e ∙ sym (cond-true (nat_lt name_limit (length bs)) [] bs (lt-ltb name_limit (length bs) (h.holds.1)))
+
+pub making_inverse : MakingInverse
+making_inverse = record { bytes_back = λ bs n m. m.holds; name_back = back }
+  where
+    back : (n : Name) (answer : Result Name NameRefusal) → Naming (bytes_of n) answer → answer ≡ Ok n
+    back n (Ok m) h = ap Ok (sym (h.only n refl))
+    back n (Err f) h = absurd (h.no_other n refl)

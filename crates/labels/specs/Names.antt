@@ -1,5 +1,5 @@
 -- What a name stands for, and when none is made.
-use Rattle.std.specs.Prelude.{◌≡◌, ℕ, zero, suc, ◌+◌, ◌-◌, ◌*◌, ◌/◌, ◌%◌, ◌^◌, ◌<◌, ◌≤◌, min, Bool, true, ◌↔◌, MatchResult, Result, List, [], ◌∷◌, ◌++◌, length, take, drop}
+use Rattle.std.specs.Prelude.{◌≡◌, ℕ, zero, suc, ◌+◌, ◌-◌, ◌*◌, ◌/◌, ◌%◌, ◌^◌, ◌<◌, ◌≤◌, min, Bool, true, ◌↔◌, MatchResult, Result, Ok, List, [], ◌∷◌, ◌++◌, length, take, drop}
 use Rattle.std.proofs.Common.{mod-lt, pow-suc, arith}
 use Rattle.std.proofs.Math.Nat.{min-le_left, pow-zero}
 use Rattle.std.specs.Str.{bytes_eq}
@@ -85,3 +85,8 @@ Unmade bs f = Sole (NameReason bs) (HasBytes bs) (number f)
 -- what making a name of the bytes answers
 abbrev pub Naming : List ℕ → Result Name NameRefusal → Type 0
 Naming bs answer = MatchResult answer (MadeFrom bs) (Unmade bs)
+
+-- Making a name and reading its bytes back are inverse.
+pub record MakingInverse : Type 0 where
+  pub bytes_back : (bs : List ℕ) (n : Name) → Naming bs (Ok n) → bytes_of n ≡ bs
+  pub name_back : (n : Name) (answer : Result Name NameRefusal) → Naming (bytes_of n) answer → answer ≡ Ok n

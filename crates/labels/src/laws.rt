@@ -1,6 +1,6 @@
 // What is proved of labels.
 ghost use Rattle.std.specs.Prelude.{◌≡◌, ◌==◌};
-ghost use Rattle.labels.specs.Names.{same_name, EqualByBytes};
+ghost use Rattle.labels.specs.Names.{same_name, EqualByBytes, MakingInverse};
 ghost use Rattle.labels.specs.declared.code.FolderCode.{FolderCode};
 ghost use Rattle.labels.specs.declared.name.Name.{Name};
 
@@ -16,6 +16,11 @@ pub fn names_are_compared_by_bytes()
 // Names are equal exactly when they have the same bytes.
 pub fn names_are_equal_by_bytes()
     ensures { EqualByBytes }
+{}
+
+// Making a name from bytes and reading its bytes back are inverse.
+pub fn making_and_reading_are_inverse()
+    ensures { MakingInverse }
 {}
 
 // Folder codes are equal as numbers.
