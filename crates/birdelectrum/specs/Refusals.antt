@@ -1,6 +1,6 @@
 -- The refusals of an input by their numbers and places.
-use Rattle.std.specs.Prelude.{◌≡◌, ℕ, List, ◌++◌, codes}
-use Rattle.std.specs.Fmt.{decimal}
+use Rattle.std.specs.Prelude.{◌≡◌, ℕ, List}
+use Rattle.labels.specs.Printed.{number_at}
 use Rattle.rules.specs.Refusals as text
 use Rattle.runs.specs.Refusals as state
 use Rattle.xml.specs.Faults as listing
@@ -24,7 +24,7 @@ place (Run r n) = n
 
 -- how a refusal is printed
 abbrev pub refusal_text : Refusal → List ℕ
-refusal_text r = decimal (number r) ++ (codes " at " ++ decimal (place r))
+refusal_text r = number_at (number r) (place r)
 
 -- a listing of n bytes ended with its fault, or since the run refused an event
 abbrev pub Ends : Stop → ℕ → Refusal → Type 0

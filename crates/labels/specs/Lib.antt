@@ -1,6 +1,8 @@
+pub mod Exact
+pub mod Printed
 pub mod Spelling
 pub mod Ends
-pub mod Exact
 pub mod Names
+pub mod NameOf
 pub mod Words
 pub mod NameLaws

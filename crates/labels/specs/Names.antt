@@ -1,8 +1,5 @@
 -- What a name stands for, and when none is made.
-use Rattle.std.specs.Prelude.{◌≡◌, ℕ, zero, suc, ◌+◌, ◌-◌, ◌*◌, ◌/◌, ◌%◌, ◌^◌, ◌<◌, ◌≤◌, min, Bool, true, ◌↔◌, MatchResult, Result, Ok, List, [], ◌∷◌, ◌++◌, length, take, drop}
-use Rattle.std.proofs.Common.{mod-lt, pow-suc, arith}
-use Rattle.std.proofs.Math.Nat.{min-le_left, pow-zero}
-use Rattle.std.specs.Str.{bytes_eq}
+use Rattle.std.specs.Prelude.{◌≡◌, ℕ, zero, suc, ◌-◌, ◌/◌, ◌%◌, ◌<◌, ◌≤◌, min, MatchResult, Result, Ok, List, [], ◌∷◌, ◌++◌, length}
 use Rattle.labels.specs.Spelling.{name_limit}
 use Rattle.labels.specs.Exact.{Sole}
 use Rattle.labels.specs.declared.name.Name.{Name}
@@ -10,55 +7,13 @@ use Rattle.labels.specs.declared.name.NameRefusal.{NameRefusal}
 use Rattle.labels.specs.declared.name.NameRefusal.TheVariants.{TooLong}
 
 -- the last n digits of w in base 256
-abbrev pub fixed : ℕ → ℕ → List ℕ
-fixed zero w = []
-fixed (suc n) w = fixed n (w / 256) ++ w % 256 ∷ []
+abbrev pub digits : ℕ → ℕ → List ℕ
+digits zero w = []
+digits (suc n) w = digits n (w / 256) ++ w % 256 ∷ []
 
 -- the bytes of a name
 abbrev pub bytes_of : Name → List ℕ
-bytes_of n = fixed (min 8 n.len) n.first ++ (fixed (min 8 (n.len - 8)) n.second ++ (fixed (min 8 (n.len - 16)) n.third ++ fixed (min 8 (n.len - 24)) n.fourth))
-
--- the number that bytes write in base 256, behind what v writes
-abbrev pub written : ℕ → List ℕ → ℕ
-written v [] = v
-written v (b ∷ bs) = written (v * 256 + b) bs
-
--- the word of n bytes from the place p on
-abbrev pub word_of : List ℕ → ℕ → ℕ → ℕ
-word_of bs p n = written 0 (take n (drop p bs)) % 256 ^ n
-
-pub word_fits : (bs : List ℕ) (p n : ℕ) → word_of bs p n < 256 ^ n
-word_fits bs p n = mod-lt (written 0 (take n (drop p bs))) (power n)
-  where
-    power : (n : ℕ) → 0 < 256 ^ n
-    power zero = omega (arith, pow-zero 256)
-    power (suc n) = omega (arith, pow-suc 256 n, power n)
-
--- the name with so many bytes
-abbrev pub cut_name : (n : ℕ) → n ≤ name_limit → List ℕ → Name
-cut_name n few bs = record {
-  len = n;
-  first = word_of bs 0 (min 8 n);
-  second = word_of bs 8 (min 8 (n - 8));
-  third = word_of bs 16 (min 8 (n - 16));
-  fourth = word_of bs 24 (min 8 (n - 24));
-  few = few;
-  first_fits = word_fits bs 0 (min 8 n);
-  second_fits = word_fits bs 8 (min 8 (n - 8));
-  third_fits = word_fits bs 16 (min 8 (n - 16));
-  fourth_fits = word_fits bs 24 (min 8 (n - 24));
-}
-
--- the name of the bytes, of which it takes no more than a name has
-unfoldable pub name_of : List ℕ → Name
-name_of bs = cut_name (min name_limit (length bs)) (min-le_left name_limit (length bs)) bs
-
--- names are equal when their bytes are
-abbrev pub same_name : Name → Name → Bool
-same_name a b = bytes_eq (bytes_of a) (bytes_of b)
-
-abbrev pub EqualByBytes : Type 0
-EqualByBytes = (a b : Name) → (same_name a b ≡ true) ↔ (bytes_of a ≡ bytes_of b)
+bytes_of n = digits (min 8 n.len) n.first ++ (digits (min 8 (n.len - 8)) n.second ++ (digits (min 8 (n.len - 16)) n.third ++ digits (min 8 (n.len - 24)) n.fourth))
 
 ------------------------------------------------------------------------
 -- making names
@@ -85,6 +40,10 @@ Unmade bs f = Sole (NameReason bs) (HasBytes bs) (number f)
 -- what making a name of the bytes answers
 abbrev pub Naming : List ℕ → Result Name NameRefusal → Type 0
 Naming bs answer = MatchResult answer (MadeFrom bs) (Unmade bs)
+
+-- the same for every kind of labels with a spelling: the label is spelled by the bytes, or they are too many
+abbrev pub Making : {L : Type 0} → (L → List ℕ) → List ℕ → Result L NameRefusal → Type 0
+Making spelled bs answer = MatchResult answer (λ l. (spelled l ≡ bs) × (length bs ≤ name_limit)) (λ f. NameReason bs (number f))
 
 -- Making a name and reading its bytes back are inverse.
 pub record MakingInverse : Type 0 where

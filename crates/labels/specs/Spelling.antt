@@ -1,8 +1,8 @@
 -- How names and white space are spelled.
-use Rattle.std.specs.Prelude.{◌≡◌, ℕ, ◌+◌, ◌<◌, ◌≤◌, Bool, true, false, if◌then◌else◌, ◌||◌, List, [], length, ◌==◌, nat_lt, slice_index, slice_range}
+use Rattle.std.specs.Prelude.{◌≡◌, ℕ, ◌+◌, ◌<◌, ◌≤◌, Bool, true, false, ◌||◌, List, length, ◌==◌, slice_index, slice_range}
 use Rattle.std.specs.Char.{is_ascii_digit, is_ascii_alphabetic}
 
--- the byte at a place; past the end it is 0, which no definition asks for
+-- the byte at a place; past the end it is 0, which is no white space and stands in no name
 abbrev pub byte : List ℕ → ℕ → ℕ
 byte bs i = slice_index bs i
 
@@ -48,7 +48,3 @@ name_limit = 32
 -- a name that is not too long
 abbrev pub Spelled : List ℕ → ℕ → ℕ → Type 0
 Spelled bs p q = Named bs p q × (q ≤ p + name_limit)
-
--- the bytes that a name keeps: none where they are too many
-abbrev pub kept_name : List ℕ → List ℕ
-kept_name bs = if nat_lt name_limit (length bs) then [] else bs

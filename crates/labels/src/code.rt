@@ -1,7 +1,7 @@
-// Folder codes.
+//! Folder codes.
 use crate::kind::LabelKind;
 
-// A folder's number on the server.
+/// A folder's number on the server.
 #[derive(Clone, Copy, PartialEq, Eq, Debug)]
 pub struct FolderCode(pub u32);
 

@@ -1,11 +1,13 @@
-// What a kind of labels is.
+//! What a kind of labels is.
 ghost use Rattle.std.specs.Prelude.{◌≡◌, ℕ, Bool, List};
-ghost use Rattle.labels.specs.Spelling.{kept_name};
+ghost use Rattle.labels.specs.Names.{Making};
 
-// A kind of labels means an equality of labels, which `Eq` proves reflexive, symmetric and transitive.
+use crate::name::NameRefusal;
+
+/// A kind of labels means an equality of labels, which `Eq` proves reflexive, symmetric and transitive.
 pub trait LabelKind: Copy + Eq {}
 
-// A kind of labels that are spelled as names.
+/// A kind of labels that are spelled as names.
 pub trait NameLabel: LabelKind {
     // the bytes of a label
     ghost spelled: { Self → List ℕ };
@@ -13,9 +15,9 @@ pub trait NameLabel: LabelKind {
     // which bytes are equal as names of this kind
     ghost alike: { List ℕ → List ℕ → Bool };
 
-    // The label with these bytes; of no bytes where they are more than a name has.
-    fn from_name(bytes: &[u8]) -> Self
-        ensures { spelled result ≡ kept_name bytes.now };
+    /// The label with these bytes, unless they are too many.
+    fn from_name(bytes: &[u8]) -> Result<Self, NameRefusal>
+        ensures { Making spelled bytes.now result };
 
     ghost tied: { (a b : Self) → Self.eq a b ≡ alike (spelled a) (spelled b) };
 }

@@ -4,5 +4,4 @@ pub mod code;
 pub mod kind;
 pub mod laws;
 pub mod name;
-pub mod naming;
 pub mod spelling;

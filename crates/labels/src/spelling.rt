@@ -1,47 +1,51 @@
-// How names are spelled in rule texts and in listings. Bytes and a place go in and a place comes out: refusals tell places, so a cursor
-// over both would be taken apart and made again.
-ghost use Rattle.std.specs.Prelude.{◌≡◌, ◌<◌, ◌≤◌, length, MatchResult};
+//! How names are spelled in rule texts and in listings. Bytes and a place go in and a place comes out: refusals tell places, so a cursor
+//! over both would be taken apart and made again.
+ghost use Rattle.std.specs.Prelude.{◌≡◌, ◌<◌, ◌≤◌, length, drop, MatchResult};
 ghost use Rattle.labels.specs.Spelling.{white, starts, inside, byte, Longest, LongestBy, Spelled};
 ghost use Rattle.labels.specs.Ends.{Unended};
 
-// The bytes that a name has at most.
+/// The bytes that a name has at most.
 pub const NAME_LIMIT: usize = 32;
 
-// Space, tab, line feed and carriage return.
+/// Space, tab, line feed and carriage return.
 pub fn is_white(b: u8) -> bool
     ensures { result ≡ white b }
 {
     b == b' ' || b == b'\t' || b == b'\n' || b == b'\r'
 }
 
-// Whether a name can begin with the byte.
+/// Whether a name can begin with the byte.
 pub fn starts_name(b: u8) -> bool
     ensures { result ≡ starts b }
 {
     b.is_ascii_alphabetic() || b == b'_'
 }
 
-// Whether the byte can stand inside a name.
+/// Whether the byte can stand inside a name.
 pub fn continues_name(b: u8) -> bool
     ensures { result ≡ inside b }
 {
     starts_name(b) || b.is_ascii_digit() || b == b'.' || b == b'-'
 }
 
-// The first place from `from` on whose byte does not pass, or the length.
+/// The bytes from the place on; past the end there are none.
+pub fn rest(bytes: &[u8], from: usize) -> &[u8]
+    ensures { result.now ≡ drop from bytes.now }
+{
+    bytes.get(from..).unwrap_or_default()
+}
+
+/// The first place from `from` on whose byte does not pass, or the length.
 pub fn run_end<F: Fn(u8) -> bool>(bytes: &[u8], from: usize, passes: F) -> usize
     requires { F.IsAlwaysCallable passes }
     ensures inside { from ≤ length bytes.now → LongestBy (F.post passes) bytes.now from result }
     ensures outside { length bytes.now < from → result ≡ from }
 {
-    if from > bytes.len() {
-        return from;
-    }
-    let rest = &bytes[from..];
+    let rest = rest(bytes, from);
     from + rest.iter().position(|b| !passes(*b)).unwrap_or(rest.len())
 }
 
-// The first place from `from` on where no white space stands, or the length.
+/// The first place from `from` on where no white space stands, or the length.
 pub fn white_end(bytes: &[u8], from: usize) -> usize
     ensures inside { from ≤ length bytes.now → Longest (λ i. white (byte bytes.now i)) (length bytes.now) from result }
     ensures outside { length bytes.now < from → result ≡ from }
@@ -49,14 +53,14 @@ pub fn white_end(bytes: &[u8], from: usize) -> usize
     run_end(bytes, from, is_white)
 }
 
-// Why no name ends: none begins at the place, or the one that does is too long, and ends there.
+/// Why no name ends: none begins at the place, or the one that does is too long, and ends there.
 #[derive(Clone, Copy, PartialEq, Eq, Debug)]
 pub enum NoName {
     Missing,
     TooLong(usize),
 }
 
-// The end of the name at the place.
+/// The end of the name at the place.
 pub fn name_end(bytes: &[u8], at: usize) -> Result<usize, NoName>
     ensures { MatchResult result (Spelled bytes.now at) (Unended bytes.now at) }
 {

@@ -12,13 +12,13 @@ use Rattle.rules.specs.Grammar.{Test, name, star, Text}
 use Rattle.rules.specs.Rule.{blank, parent_of, edge_of}
 use Rattle.rules.specs.Embedding.{Below, direct, Across, Embedding, Nodes, ChildIn, MeetsIn, OccursIn, ParentsFirst}
 use Rattle.rules.specs.XPath.{LocationPath, Context, ChildOf, Selected}
-use Rattle.rules.specs.Expression.{is_star, plain, rule_nodes_of, ParentIn, CalledIn, expression, TextStandsFor, stands_for, SelectsAlike, PlainReadings}
+use Rattle.rules.specs.Expression.{token_bytes, is_star, plain, rule_nodes_of, ParentIn, CalledIn, expression, TextStandsFor, stands_for, SelectsAlike, PlainReadings}
 use Rattle.rules.specs.Lexing.{Lexes}
 use Rattle.rules.specs.Machine.{to, ended, start, moves}
 use Rattle.rules.specs.Answer.{Gives, gives}
 use Rattle.rules.proofs.Machine.{complete}
 use Rattle.rules.proofs.Words.{unique}
-use Rattle.rules.specs.Naming.{spelling, NamesIn, behind, named, unnamed}
+use Rattle.rules.specs.Naming.{NamesIn, behind, named, unnamed}
 use Rattle.rules.proofs.Selects.{slice_get_within, below_then, below_from, below_last, inner_below, outer_below, MeetsNode, Mapping, selected_maps, mapping_selected}
 
 pub some_at : {X : Type 0} (xs : List X) (k : ℕ) → k < length xs → (y : X) × (slice_get xs k ≡ Some y)
@@ -32,9 +32,9 @@ rule_at (m ∷ ns) zero n h = let e : m ≡ n = cc in ap plain e
 rule_at (m ∷ ns) (suc k) n h = rule_at ns k n h
 
 label_of : {L : Type 0} {spelled : L → List ℕ} {bs : List ℕ} {ns : List ParsedNode} {before labels : List L} → NamesIn spelled bs ns before labels
-    → (k : ℕ) (n : ParsedNode) → slice_get ns k ≡ Some n → n.test.kind ≡ Name → (y : L) × (slice_get labels k ≡ Some y) × (spelled y ≡ spelling bs n)
+    → (k : ℕ) (n : ParsedNode) → slice_get ns k ≡ Some n → n.test.kind ≡ Name → (y : L) × (slice_get labels k ≡ Some y) × (spelled y ≡ token_bytes bs n.test)
 label_of behind k n h t = let z : ◌≡◌ {A = ℕ} 0 1 = cc in absurd (omega arith)
-label_of {bs = bs} (named {n = m} {y = y} q e d) zero n h t = let s : m ≡ n = cc in (y, refl, e ∙ ap (spelling bs) s)
+label_of {bs = bs} (named {n = m} {y = y} q e d) zero n h t = let s : m ≡ n = cc in (y, refl, e ∙ ap (λ (z : ParsedNode). token_bytes bs z.test) s)
 label_of (named q e d) (suc k) n h t = label_of d k n h t
 label_of (unnamed {n = m} q d) zero n h t = let s : m ≡ n = cc in absurd (q (ap (λ (z : ParsedNode). z.test.kind) s ∙ t))
 label_of (unnamed q d) (suc k) n h t = label_of d k n h t
@@ -156,10 +156,10 @@ plain_readings spelled alike = record {
     (λ h.
         let C : Context → Context → Type 0 = ChildOf (ParentIn nodes) (CalledIn spelled alike nodes) in
         let s : (Some u ≡ h.2.0) ⊎ Below C (Some u) h.2.0 = subst (λ (a : Context). (a ≡ h.2.0) ⊎ Below C a h.2.0) (sym h.1.0) h.2.1.0 in
-        (inner_below [] (ParentIn nodes) (CalledIn spelled alike nodes) (below_from s h.2.2.0) u v refl refl, h.2.2.1, h.2.2.2)),
+        (inner_below [] (ParentIn nodes) (CalledIn spelled alike nodes) (below_from s h.2.2.0) u v refl refl, (h.2.2.1, h.2.2.2))),
     λ k.
         let r = below_last (outer_below [] (ParentIn nodes) (CalledIn spelled alike nodes) k.0) in
-        (Some u, (refl, tt, tt), (r.0, (r.1, tt, tt), (r.2, k.1, k.2))),
+        (Some u, (refl, tt, tt), (r.0, (r.1, tt, tt), (r.2, k.1.0, k.1.1))),
   );
   every = λ nodes parents t ps v l. (
     (λ h. (h.2.1, h.2.2)),

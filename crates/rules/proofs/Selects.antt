@@ -10,7 +10,7 @@ use Rattle.rules.specs.declared.syntax.ParsedNode.{ParsedNode}
 use Rattle.rules.specs.Grammar.{Test, name, star, Between, slash, double_slash, node, Step, step, Predicates, none, predicate, Path, child, descendant, Further, last, further, Text, text}
 use Rattle.rules.specs.Embedding.{Below, direct, deeper, Across}
 use Rattle.rules.specs.XPath.{Context, LocationPath, LocationStep, ChildOf, Passes, InPath, InStep, Hold, Selected}
-use Rattle.rules.specs.Expression.{word, apart, test_of, step_of, predicates_of, path_of, further_of, expression}
+use Rattle.rules.specs.Expression.{token_bytes, apart, test_of, step_of, predicates_of, path_of, further_of, expression}
 
 ------------------------------------------------------------------------
 -- lists
@@ -124,7 +124,7 @@ module _ (bs : List ℕ) (HasParent : Context → ℕ → Type 0) (Called : List
 
   -- the test of a rule node, by the text
   abbrev pub MeetsNode : ParsedNode → ℕ → Type 0
-  MeetsNode n v = (n.test.kind ≡ Star) ⊎ ((n.test.kind ≡ Name) × Called (word bs n.test) v)
+  MeetsNode n v = (n.test.kind ≡ Star) ⊎ ((n.test.kind ≡ Name) × Called (token_bytes bs n.test) v)
 
   passes_meets : {t : Token} (d : Test t) (p : ℕ) (e : Edge) (v : ℕ) → Passes HasParent Called (test_of bs d) (Some v) → MeetsNode (node p e t) v
   passes_meets (name h) p e v q = inr (h, q)

@@ -1,17 +1,22 @@
 -- One name after another. Assumes nothing.
-use Rattle.std.proofs.Common.{◌≡◌, ℕ, zero, suc, ◌+◌, ◌-◌, ◌<◌, ◌≤◌, List, [], ◌∷◌, ◌++◌, length, get_or, take, drop, set, sym, ap, subst, arith}
+use Rattle.std.proofs.Common.{◌≡◌, ℕ, zero, suc, ◌+◌, ◌-◌, ◌<◌, ◌≤◌, List, [], ◌∷◌, ◌++◌, length, get_or, take, drop, set, Result, Ok, Err, sym, ap, ◌∙◌, subst, arith}
 use Rattle.std.specs.List.{AllByRecursion}
 use Rattle.std.proofs.lemmas.List.{take_more, length-take-le}
 use Rattle.rules.specs.declared.syntax.Kind.TheVariants.{Name, DoubleSlash}
 use Rattle.rules.specs.declared.node.Edge.TheVariants.{Child}
 use Rattle.rules.specs.declared.syntax.ParsedNode.{ParsedNode}
-use Rattle.rules.specs.Naming.{spelling, NamesIn, behind, named, unnamed}
+use Rattle.labels.specs.declared.name.NameRefusal.{NameRefusal}
+use Rattle.labels.specs.Names.{Making}
+use Rattle.rules.specs.Expression.{token_bytes}
+use Rattle.rules.specs.Naming.{NamesIn, behind, named, unnamed}
 
 abbrev pub blank : ParsedNode
 blank = record { parent = 0; edge = Child; test = record { kind = DoubleSlash; place = 0; len = 0 } }
 
-pub same_part : (bs : List ℕ) (n : ParsedNode) → take (n.test.place + n.test.len - n.test.place) (drop n.test.place bs) ≡ spelling bs n
-same_part bs n = let e : n.test.place + n.test.len - n.test.place ≡ n.test.len = omega arith in ap (λ k. take k (drop n.test.place bs)) e
+-- a label that was made is spelled by the bytes
+pub made_label : {L : Type 0} (spelled : L → List ℕ) (bs : List ℕ) (answer : Result L NameRefusal) (l : L) → Making spelled bs answer → answer ≡ Ok l → spelled l ≡ bs
+made_label spelled bs (Ok m) l h e = let q : m ≡ l = cc in ap spelled (sym q) ∙ h.0
+made_label spelled bs (Err f) l h e = let z : ◌≡◌ {A = ℕ} 0 1 = cc in absurd (omega arith)
 
 pub every_at : {X : Type 0} (P : X → Type 0) (xs : List X) (i : ℕ) (d : X) → AllByRecursion P xs → i < length xs → P (get_or xs i d)
 every_at P [] i d h l = absurd (omega arith)
@@ -19,7 +24,7 @@ every_at P (x ∷ xs) zero d h l = h.0
 every_at P (x ∷ xs) (suc i) d h l = every_at P xs i d h.1 (omega arith)
 
 module _ {N : Type 0} (spelled : N → List ℕ) (bs : List ℕ) where
-  pub name_more : (ns : List ParsedNode) (n : ParsedNode) (xs ys : List N) (y : N) → length ns < length xs → n.test.kind ≡ Name → spelled y ≡ spelling bs n
+  pub name_more : (ns : List ParsedNode) (n : ParsedNode) (xs ys : List N) (y : N) → length ns < length xs → n.test.kind ≡ Name → spelled y ≡ token_bytes bs n.test
       → NamesIn spelled bs ns xs ys → NamesIn spelled bs (ns ++ (n ∷ [])) xs (set ys (length ns) y)
   name_more [] n [] ys y h q e d = absurd (omega arith)
   name_more [] n (x ∷ xs) ys y h q e behind = named q e behind
@@ -35,7 +40,7 @@ module _ {N : Type 0} (spelled : N → List ℕ) (bs : List ℕ) where
 
   -- the same over the places of a list of rule nodes
   pub name_turn : (ns : List ParsedNode) (i : ℕ) (d : ParsedNode) (xs ys : List N) (y : N) → i < length ns → length ns ≤ length xs
-      → (get_or ns i d).test.kind ≡ Name → spelled y ≡ spelling bs (get_or ns i d)
+      → (get_or ns i d).test.kind ≡ Name → spelled y ≡ token_bytes bs (get_or ns i d).test
       → NamesIn spelled bs (take i ns) xs ys → NamesIn spelled bs (take (i + 1) ns) xs (set ys i y)
   name_turn ns i d xs ys y h l q e w =
       let long : length (take i ns) ≡ i = length-take-le i ns (omega arith) in

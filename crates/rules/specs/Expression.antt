@@ -1,6 +1,7 @@
 -- What the abbreviations of a rule text stand for in XPath 1.0, and that the rule read from it selects the same nodes.
-use Rattle.std.specs.Prelude.{◌≡◌, ℕ, ◌<◌, Bool, true, false, ◌↔◌, List, map, length, take, drop, Some}
+use Rattle.std.specs.Prelude.{◌≡◌, ℕ, ◌<◌, Bool, true, false, ◌↔◌, ◌+◌, List, map, length, Some}
 use Rattle.std.specs.List.{slice_get}
+use Rattle.labels.specs.Spelling.{part}
 use Rattle.rules.specs.declared.syntax.Kind.{Kind}
 use Rattle.rules.specs.declared.syntax.Kind.TheVariants.{Star}
 use Rattle.rules.specs.declared.syntax.Token.{Token}
@@ -8,22 +9,22 @@ use Rattle.rules.specs.declared.node.Edge.{Edge}
 use Rattle.rules.specs.declared.syntax.ParsedNode.{ParsedNode}
 use Rattle.rules.specs.declared.node.RuleNode.{RuleNode}
 use Rattle.rules.specs.Grammar.{Test, name, star, Between, slash, double_slash, Step, step, Predicates, none, predicate, Path, child, descendant, Further, last, further, Text, text}
-use Rattle.rules.specs.XPath as x
+use Rattle.rules.specs.XPath as xpath
 use Rattle.rules.specs.XPath.{LocationPath, LocationStep, only, first, Selected, Context}
 use Rattle.rules.specs.Embedding.{Below, Nodes, ChildIn, OccursIn, ParentsFirst}
 use Rattle.rules.specs.Lexing.{Lexes}
 
 -- the bytes of a token
-abbrev pub word : List ℕ → Token → List ℕ
-word bs t = take t.len (drop t.place bs)
+abbrev pub token_bytes : List ℕ → Token → List ℕ
+token_bytes bs t = part bs t.place (t.place + t.len)
 
 -- `//` between two steps is `/descendant-or-self::node()/`
 abbrev pub anywhere : LocationStep
-anywhere = x.step x.descendant_or_self x.node x.none
+anywhere = xpath.step xpath.descendant_or_self xpath.node xpath.none
 
 -- `.` is `self::node()`
 abbrev pub here : LocationStep
-here = x.step x.self x.node x.none
+here = xpath.step xpath.self xpath.node xpath.none
 
 -- `/` stands for itself
 abbrev pub apart : {t : Token} {e : Edge} → Between t e → LocationPath → LocationPath
@@ -31,18 +32,18 @@ apart (slash h) p = p
 apart (double_slash h) p = first anywhere p
 
 module _ (bs : List ℕ) where
-  abbrev pub test_of : {t : Token} → Test t → x.NodeTest
-  test_of (name {t = t} h) = x.name (word bs t)
-  test_of (star h) = x.star
+  abbrev pub test_of : {t : Token} → Test t → xpath.NodeTest
+  test_of (name {t = t} h) = xpath.name (token_bytes bs t)
+  test_of (star h) = xpath.star
 
   abbrev mutual
     -- a step with no axis is `child::`
     pub step_of : {p : ℕ} {e : Edge} {ns ms : List ParsedNode} {ts rest : List Token} → Step p e ns ts ms rest → LocationStep
-    step_of (step t ps) = x.step x.child (test_of t) (predicates_of ps)
+    step_of (step t ps) = xpath.step xpath.child (test_of t) (predicates_of ps)
 
-    pub predicates_of : {n : ℕ} {ns ms : List ParsedNode} {ts rest : List Token} → Predicates n ns ts ms rest → x.Predicates
-    predicates_of none = x.none
-    predicates_of (predicate o p c ps) = x.also (path_of p) (predicates_of ps)
+    pub predicates_of : {n : ℕ} {ns ms : List ParsedNode} {ts rest : List Token} → Predicates n ns ts ms rest → xpath.Predicates
+    predicates_of none = xpath.none
+    predicates_of (predicate o p c ps) = xpath.also (path_of p) (predicates_of ps)
 
     pub path_of : {n : ℕ} {ns ms : List ParsedNode} {ts rest : List Token} → Path n ns ts ms rest → LocationPath
     path_of (child s f) = further_of f (step_of s)
@@ -86,11 +87,14 @@ SelectsAlike {L} same spelled alike bs rule labels =
     → (nodes : Nodes L) → ParentsFirst nodes → (v : ℕ) → v < length nodes
     → Selected (ParentIn nodes) (CalledIn spelled alike nodes) p v ↔ OccursIn same rule labels nodes v
 
--- The same in plain words: `.//` leads to the proper descendants, and `//` at the front to every node of the listing.
+-- node v passes the test, and the predicates hold at it
+abbrev pub Fits : {L : Type 0} → (L → List ℕ) → (List ℕ → List ℕ → Bool) → Nodes L → xpath.NodeTest → xpath.Predicates → ℕ → Type 0
+Fits spelled alike nodes t ps v = xpath.Passes (ParentIn nodes) (CalledIn spelled alike nodes) t (Some v) × xpath.Hold (ParentIn nodes) (CalledIn spelled alike nodes) ps (Some v)
+
+-- What the abbreviations come to: `.//` leads to the proper descendants, and `//` at the front to every node of the listing.
 pub record PlainReadings {L : Type 0} (spelled : L → List ℕ) (alike : List ℕ → List ℕ → Bool) : Type 0 where
-  pub lower : (nodes : Nodes L) (t : x.NodeTest) (ps : x.Predicates) (u v : ℕ)
-      → x.InPath (ParentIn nodes) (CalledIn spelled alike nodes) (first here (first anywhere (only (x.step x.child t ps)))) (Some u) (Some v)
-      ↔ (Below (ChildIn nodes) u v × x.Passes (ParentIn nodes) (CalledIn spelled alike nodes) t (Some v) × x.Hold (ParentIn nodes) (CalledIn spelled alike nodes) ps (Some v))
-  pub every : (nodes : Nodes L) → ParentsFirst nodes → (t : x.NodeTest) (ps : x.Predicates) (v : ℕ) → v < length nodes
-      → Selected (ParentIn nodes) (CalledIn spelled alike nodes) (first anywhere (only (x.step x.child t ps))) v
-      ↔ (x.Passes (ParentIn nodes) (CalledIn spelled alike nodes) t (Some v) × x.Hold (ParentIn nodes) (CalledIn spelled alike nodes) ps (Some v))
+  pub lower : (nodes : Nodes L) (t : xpath.NodeTest) (ps : xpath.Predicates) (u v : ℕ)
+      → xpath.InPath (ParentIn nodes) (CalledIn spelled alike nodes) (first here (first anywhere (only (xpath.step xpath.child t ps)))) (Some u) (Some v)
+      ↔ (Below (ChildIn nodes) u v × Fits spelled alike nodes t ps v)
+  pub every : (nodes : Nodes L) → ParentsFirst nodes → (t : xpath.NodeTest) (ps : xpath.Predicates) (v : ℕ) → v < length nodes
+      → Selected (ParentIn nodes) (CalledIn spelled alike nodes) (first anywhere (only (xpath.step xpath.child t ps))) v ↔ Fits spelled alike nodes t ps v

@@ -6,20 +6,16 @@ use Rattle.rules.specs.declared.refusal.TextRefusal.{TextRefusal}
 use Rattle.rules.specs.declared.rule.Rule.{Rule}
 use Rattle.rules.specs.Nodes.{rule_nodes}
 use Rattle.rules.specs.XPath.{LocationPath}
-use Rattle.rules.specs.Expression.{word, rule_nodes_of, TextStandsFor, SelectsAlike}
+use Rattle.rules.specs.Expression.{token_bytes, rule_nodes_of, TextStandsFor, SelectsAlike}
 use Rattle.rules.specs.Refusals.{number_and_place}
 use Rattle.labels.specs.Exact.{Sole}
 use Rattle.rules.specs.Answer.{Gives, IsRefused}
 use Rattle.rules.specs.Limits.{node_limit}
 
--- the bytes of a rule node's test
-abbrev pub spelling : List ℕ → ParsedNode → List ℕ
-spelling bs n = word bs n.test
-
 -- each named rule node of ns has its name in the list at its number; the other entries are as before
 pub data NamesIn {N : Type 0} (spelled : N → List ℕ) (bs : List ℕ) : List ParsedNode → List N → List N → Type 0 where
   behind : {xs : List N} → NamesIn spelled bs [] xs xs
-  named : {n : ParsedNode} {ns : List ParsedNode} {x y : N} {xs ys : List N} → n.test.kind ≡ Name → spelled y ≡ spelling bs n → NamesIn spelled bs ns xs ys → NamesIn spelled bs (n ∷ ns) (x ∷ xs) (y ∷ ys)
+  named : {n : ParsedNode} {ns : List ParsedNode} {x y : N} {xs ys : List N} → n.test.kind ≡ Name → spelled y ≡ token_bytes bs n.test → NamesIn spelled bs ns xs ys → NamesIn spelled bs (n ∷ ns) (x ∷ xs) (y ∷ ys)
   unnamed : {n : ParsedNode} {ns : List ParsedNode} {x : N} {xs ys : List N} → (n.test.kind ≢ Name) → NamesIn spelled bs ns xs ys → NamesIn spelled bs (n ∷ ns) (x ∷ xs) (x ∷ ys)
 
 -- Reading the text bs with so many entries for names gives the rule nodes ns.

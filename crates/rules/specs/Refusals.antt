@@ -1,6 +1,7 @@
 -- The refusals of rule texts and of records, by their numbers and values.
-use Rattle.std.specs.Prelude.{ℕ, List, ◌++◌, codes, Some, None, Option}
+use Rattle.std.specs.Prelude.{ℕ, List, Some, None, Option}
 use Rattle.std.specs.Fmt.{decimal}
+use Rattle.labels.specs.Printed.{number_at}
 use Rattle.rules.specs.declared.refusal.RecordRefusal.{RecordRefusal}
 use Rattle.rules.specs.declared.refusal.RecordRefusal.TheVariants.{Size, Bad}
 use Rattle.rules.specs.declared.refusal.TextRefusal.{TextRefusal}
@@ -34,10 +35,6 @@ bad_record f = (number_and_record f).1
 
 ------------------------------------------------------------------------
 -- how they are printed
-
--- a number at a place
-abbrev pub number_at : ℕ → ℕ → List ℕ
-number_at k p = decimal k ++ (codes " at " ++ decimal p)
 
 abbrev pub printed_text : TextRefusal → List ℕ
 printed_text f = number_at (number f) (place f)

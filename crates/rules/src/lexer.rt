@@ -1,10 +1,10 @@
 // The tokens of a rule text. Text and place go in, since tokens and refusals tell places: a cursor over both would be no plainer.
-ghost use Rattle.std.specs.Prelude.{◌≡◌, ◌<◌, ◌≤◌, false, length, drop, MatchOption, slice_index};
+ghost use Rattle.std.specs.Prelude.{◌≡◌, ◌<◌, ◌≤◌, false, length, MatchOption, slice_index};
 ghost use Rattle.labels.specs.Spelling.{white, starts, byte, Named};
 ghost use Rattle.rules.specs.Machine.{Next};
 
 use crate::syntax::{Kind, Token};
-use labels::spelling::{NoName, name_end, white_end};
+use labels::spelling::{NoName, name_end, rest, white_end};
 
 // The end of the name at the place, however long it is; none where no name begins.
 fn name_stop(text: &[u8], place: usize) -> Option<usize>
@@ -14,13 +14,6 @@ fn name_stop(text: &[u8], place: usize) -> Option<usize>
         Ok(end) | Err(NoName::TooLong(end)) => Some(end),
         Err(NoName::Missing) => None,
     }
-}
-
-// The bytes from the place on, which are none past the end.
-fn rest(text: &[u8], place: usize) -> &[u8]
-    ensures { result.now ≡ drop place text.now }
-{
-    text.get(place..).unwrap_or(&[])
 }
 
 // The token at a place that is no white space; at the end of the text it is the end.

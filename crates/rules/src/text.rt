@@ -59,7 +59,7 @@ fn write_names<N: NameLabel>(text: &[u8], nodes: &[ParsedNode], names: &mut [N])
         let test = node.test;
         if test.kind == Kind::Name {
             let end = test.place + test.len;
-            names[i] = N::from_name(&text[test.place..end]);
+            names[i] = N::from_name(&text[test.place..end]).unwrap();
         }
     }
 }

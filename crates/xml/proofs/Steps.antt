@@ -8,7 +8,7 @@ use Rattle.xml.specs.declared.tags.Tag.{Tag}
 use Rattle.xml.specs.declared.tags.Tag.TheVariants.{Open, Empty, Close}
 use Rattle.xml.specs.declared.reader.Tags.{Tags}
 use Rattle.labels.specs.Spelling.{part, Spelled}
-use Rattle.labels.specs.Names.{name_of}
+use Rattle.labels.specs.NameOf.{name_of}
 use Rattle.xml.specs.Faults.{number, place}
 use Rattle.xml.specs.Reading.{levels, Finds, FindsAt, Reads, Room, Innermost}
 use Rattle.xml.specs.Reading.Finds.{finish, start, end_tag}

@@ -1,6 +1,6 @@
 -- The faults of a listing by their numbers and places.
-use Rattle.std.specs.Prelude.{ℕ, List, ◌++◌, codes}
-use Rattle.std.specs.Fmt.{decimal}
+use Rattle.std.specs.Prelude.{ℕ, List}
+use Rattle.labels.specs.Printed.{number_at}
 use Rattle.xml.specs.declared.fault.ScanFault.{ScanFault}
 use Rattle.xml.specs.declared.fault.ScanFault.TheVariants.{Byte, End, LongName}
 use Rattle.xml.specs.declared.fault.LookFault.{LookFault}
@@ -32,7 +32,7 @@ place (Deep p) = p
 
 -- a fault as it is written
 abbrev pub fault_text : XmlFault → List ℕ
-fault_text f = decimal (number f) ++ (codes " at " ++ decimal (place f))
+fault_text f = number_at (number f) (place f)
 
 -- a look ahead has the listing's fault, or 25
 abbrev pub look_number : LookFault → ℕ

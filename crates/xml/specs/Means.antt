@@ -2,7 +2,7 @@
 use Rattle.std.specs.Prelude.{◌≡◌, ℕ, Bool, true, false, List, [], ◌∷◌, map, reverse, Some, None, Ok, Err, Option, Result}
 use denote.Ref.{Bor}
 use Rattle.labels.specs.Spelling.{part}
-use Rattle.labels.specs.Names.{name_of}
+use Rattle.labels.specs.NameOf.{name_of}
 use Rattle.labels.specs.declared.name.Name.{Name}
 use Rattle.sources.specs.declared.event.Event.{Event}
 use Rattle.sources.specs.declared.event.Event.TheVariants.{Open, Close}

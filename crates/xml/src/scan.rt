@@ -1,6 +1,6 @@
 // Where names and tags end. A scan starts at any place, also past the end of the input. It takes and answers bare places, since the
 // faults and the tags tell places: a cursor would be taken apart and made again at each step.
-ghost use Rattle.std.specs.Prelude.{◌≡◌, ◌≤◌, length, drop, MatchResult};
+ghost use Rattle.std.specs.Prelude.{◌≡◌, ◌≤◌, length, MatchResult};
 ghost use Rattle.labels.specs.Spelling.{byte, Longest, Spelled};
 ghost use Rattle.xml.specs.Bytes.{plain};
 ghost use Rattle.xml.specs.Markup.{TagEnds, EndEnds, NameFault, TagFault, StartFault, EndFault};
@@ -8,14 +8,7 @@ ghost use Rattle.xml.specs.Inner.{Told, CloseMissing, Tagged};
 
 use crate::fault::ScanFault;
 use labels::spelling;
-use labels::spelling::{NoName, is_white, run_end, white_end};
-
-// The bytes from the place on; past the end there are none.
-pub fn rest(input: &[u8], at: usize) -> &[u8]
-    ensures { result.now ≡ drop at input.now }
-{
-    input.get(at..).unwrap_or_default()
-}
+use labels::spelling::{NoName, is_white, rest, run_end, white_end};
 
 // The end of the name at the place.
 pub fn name_end(input: &[u8], at: usize) -> Result<usize, ScanFault>

@@ -7,8 +7,7 @@ ghost use Rattle.xml.specs.Inner.{Told, stop_markup, Steps, Refused, Passes};
 ghost use Rattle.xml.specs.declared.fault.Markup.TheVariants.{Comment, Instruction};
 
 use crate::fault::{Markup, ScanFault, Stop, XmlFault};
-use crate::scan::rest;
-use labels::spelling::{is_white, starts_name};
+use labels::spelling::{is_white, rest, starts_name};
 use std::ops::ControlFlow;
 
 // Which markup `<` begins, by the bytes behind it.

@@ -1,6 +1,6 @@
 // Reading tag by tag.
 ghost use Rattle.std.specs.Prelude.{◌≡◌, ◌≤◌, false, [], length, drop, Decides, MatchResult};
-ghost use Rattle.labels.specs.Names.{name_of};
+ghost use Rattle.labels.specs.NameOf.{name_of};
 ghost use Rattle.labels.specs.Spelling.{name_limit};
 ghost use Rattle.xml.specs.Markup.{markup};
 ghost use Rattle.xml.specs.Reading.{Innermost, Reads, Room};
@@ -24,7 +24,7 @@ pub(crate) enum Tag {
 }
 
 // The label of an element's name.
-#[tactic(auto, using(labels::specs::NameLaws::is_name_of))]
+#[tactic(auto, using(labels::proofs::Making::is_name_of))]
 fn label(bytes: &[u8]) -> Name
     requires { length bytes.now ≤ name_limit }
     ensures { result ≡ name_of bytes.now }

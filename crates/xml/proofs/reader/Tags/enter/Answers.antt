@@ -1,6 +1,6 @@
 use Rattle.std.proofs.Common.{true, false, ◌∷◌, sym, refl, ap, ◌∙◌}
 use Rattle.std.proofs.lemmas.Result.{err_from_is_err_and}
-use Rattle.labels.specs.Names.{name_of}
+use Rattle.labels.specs.NameOf.{name_of}
 use Rattle.xml.specs.Means.{open_names, tags_names}
 use Rattle.xml.specs.Reading.Finds.{start_fault}
 use Rattle.xml.specs.declared.fault.Markup.TheVariants.{StartTag}
