@@ -3,8 +3,8 @@ use Rattle.std.proofs.Common.{◌≡◌, ℕ, ◌≤◌, List, length, take, Err
 use Rattle.rules.specs.declared.refusal.TextRefusal.{TextRefusal}
 use Rattle.rules.specs.declared.rule.Rule.{Rule}
 use Rattle.rules.specs.Limits.{node_limit}
-use Rattle.rules.specs.Answer.{IsRefused}
-use Rattle.rules.specs.Naming.{Unread, Unreadable, short_list, by_text}
+use Rattle.rules.specs.Texts.{TextRefused}
+use Rattle.rules.specs.ReadText.{Unread, ReadingRefused, short_list, by_text}
 use Rattle.birdelectrum.specs.declared.refusal.Refusal.TheVariants as refusal
 use Rattle.birdelectrum.specs.Parts.{Splits}
 use Rattle.birdelectrum.specs.Reports.{Bad, Reports}
@@ -12,7 +12,7 @@ use Rattle.birdelectrum.specs.declared.refusal.Refusal.{Refusal}
 use Rattle.birdelectrum.specs.declared.report.Report.{Report}
 
 -- with a long enough list the text is at fault
-text_refused : {bs : List ℕ} {entries : ℕ} {x : ℕ × ℕ} → node_limit ≤ entries → Unreadable bs entries x → IsRefused bs x
+text_refused : {bs : List ℕ} {entries : ℕ} {x : ℕ × ℕ} → node_limit ≤ entries → ReadingRefused bs entries x → TextRefused bs x
 text_refused few (short_list h) = absurd (omega arith)
 text_refused few (by_text h r) = r
 

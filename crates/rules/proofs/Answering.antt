@@ -5,10 +5,10 @@ use Rattle.rules.specs.declared.syntax.ParsedNode.{ParsedNode}
 use Rattle.rules.specs.declared.refusal.TextRefusal.{TextRefusal}
 use Rattle.rules.specs.Limits.{text_limit}
 use Rattle.rules.specs.Grammar.{Text}
-use Rattle.rules.specs.Reading.{Refused, Offends, ComesBefore, same, not_allowed_first, many_before_long, many_before_deep, long_before_deep}
+use Rattle.rules.specs.Tokens.{TokensRefused, Offends, ComesBefore, same, not_allowed_first, many_before_long, many_before_deep, long_before_deep}
 use Rattle.rules.specs.Refusals.{number_and_place}
-use Rattle.rules.specs.Answer.{Unfit, Gives, gives, IsRefused, unfit, refused}
-use Rattle.rules.specs.Naming.{Readable, Unreadable, short_list, by_text, Accepts, Refuses}
+use Rattle.rules.specs.Texts.{Unfit, TextGives, gives, TextRefused, unfit, refused}
+use Rattle.rules.specs.ReadText.{ReadingGives, ReadingRefused, short_list, by_text, OnlyGives, OnlyRefused}
 use Rattle.rules.proofs.Sole.{sole}
 use Rattle.rules.proofs.Machine.{complete}
 use Rattle.rules.specs.Machine.{start, ended, to, accepts, lex, run}
@@ -20,22 +20,22 @@ pub fit : (bs : List ℕ) → (length bs ≡ 0 → ⊥) → length bs ≤ text_l
 fit bs some few (inl h) = some h
 fit bs some few (inr h) = omega arith
 
-pub turns_away : (bs : List ℕ) (f : TextRefusal) → (Unfit bs → ⊥) → run (lex 0 0 bs) start ≡ told f → IsRefused bs (number_and_place f)
+pub turns_away : (bs : List ℕ) (f : TextRefusal) → (Unfit bs → ⊥) → run (lex 0 0 bs) start ≡ told f → TextRefused bs (number_and_place f)
 turns_away bs f fits e = refused fits (lexes bs) (subst (Right (lex 0 0 bs)) e (answered (lex 0 0 bs)))
 
-pub accepting : (bs : List ℕ) (ns : List ParsedNode) → (Unfit bs → ⊥) → run (lex 0 0 bs) start ≡ accepts ns → Gives bs ns
+pub accepting : (bs : List ℕ) (ns : List ParsedNode) → (Unfit bs → ⊥) → run (lex 0 0 bs) start ≡ accepts ns → TextGives bs ns
 accepting bs ns fits e = gives fits (lexes bs) (subst (Right (lex 0 0 bs)) e (answered (lex 0 0 bs)))
 
 ------------------------------------------------------------------------
 -- a text has one answer
 
-gives_same : {bs : List ℕ} {ns ms : List ParsedNode} → Gives bs ns → Gives bs ms → ns ≡ ms
+gives_same : {bs : List ℕ} {ns ms : List ParsedNode} → TextGives bs ns → TextGives bs ms → ns ≡ ms
 gives_same {bs} {ns} {ms} (gives {ts = ts} f l a) (gives {ts = us} g k b) =
     let q : us ≡ ts = unique k ∙ sym (unique l) in
     let e : to (ended ns) ≡ to (ended ms) = sym (complete a.formed) ∙ complete (subst (λ x. Text x ms) q b.formed) in
     cc
 
-never_both : {bs : List ℕ} {ns : List ParsedNode} {x : ℕ × ℕ} → Gives bs ns → IsRefused bs x → ⊥
+never_both : {bs : List ℕ} {ns : List ParsedNode} {x : ℕ × ℕ} → TextGives bs ns → TextRefused bs x → ⊥
 never_both (gives f l a) (unfit u) = f u
 never_both (gives {ts = ts} f l a) (refused {ts = us} g m r) =
     let q : ts ≡ us = unique l ∙ sym (unique m) in
@@ -64,7 +64,7 @@ first_of long_before_deep = inr (inr (inr (inr (refl, refl))))
 one_number : (k j : ℕ) → ComesBefore k j → ComesBefore j k → k ≡ j
 one_number k j x y = let p = first_of x in let q = first_of y in omega arith
 
-refused_same : {ts : List Token} {k p j q : ℕ} → Refused ts k p → Refused ts j q → (k ≡ j) × (p ≡ q)
+refused_same : {ts : List Token} {k p j q : ℕ} → TokensRefused ts k p → TokensRefused ts j q → (k ≡ j) × (p ≡ q)
 refused_same {ts} {k} {p} {j} {q} r s =
     elim (two_splits r.before s.before r.at s.at r.rest s.rest (sym r.splits ∙ s.splits)) [
       | inl h ↦
@@ -75,31 +75,31 @@ refused_same {ts} {k} {p} {j} {q} r s =
       | inr (inr h) ↦ absurd (r.clear s.before s.at h.0 j h.1 s.offends)
     ]
 
-turned_same : {bs : List ℕ} {x y : ℕ × ℕ} → IsRefused bs x → IsRefused bs y → x ≡ y
+turned_same : {bs : List ℕ} {x y : ℕ × ℕ} → TextRefused bs x → TextRefused bs y → x ≡ y
 turned_same (unfit u) (unfit v) = refl
 turned_same (unfit u) (refused g m s) = absurd (g u)
 turned_same (refused f l r) (unfit v) = absurd (f v)
 turned_same (refused {ts = ts} {k = k} {p = p} f l r) (refused {ts = us} g m s) =
-    let h = refused_same (subst (λ x. Refused x k p) (unique l ∙ sym (unique m)) r) s in λ i. (h.0 i, h.1 i)
+    let h = refused_same (subst (λ x. TokensRefused x k p) (unique l ∙ sym (unique m)) r) s in λ i. (h.0 i, h.1 i)
 
 ------------------------------------------------------------------------
 -- and so has its reading
 
-unread_same : {bs : List ℕ} {n : ℕ} {x y : ℕ × ℕ} → Unreadable bs n x → Unreadable bs n y → x ≡ y
+unread_same : {bs : List ℕ} {n : ℕ} {x y : ℕ × ℕ} → ReadingRefused bs n x → ReadingRefused bs n y → x ≡ y
 unread_same (short_list h) (short_list i) = refl
 unread_same (short_list h) (by_text i r) = absurd (omega arith)
 unread_same (by_text h r) (short_list i) = absurd (omega arith)
 unread_same (by_text h r) (by_text i s) = turned_same r s
 
-read_same : {bs : List ℕ} {n : ℕ} {ns ms : List ParsedNode} → Readable bs n ns → Readable bs n ms → ns ≡ ms
+read_same : {bs : List ℕ} {n : ℕ} {ns ms : List ParsedNode} → ReadingGives bs n ns → ReadingGives bs n ms → ns ≡ ms
 read_same g h = gives_same g.given h.given
 
-read_or_not : {bs : List ℕ} {n : ℕ} {ns : List ParsedNode} {x : ℕ × ℕ} → Readable bs n ns → Unreadable bs n x → ⊥
+read_or_not : {bs : List ℕ} {n : ℕ} {ns : List ParsedNode} {x : ℕ × ℕ} → ReadingGives bs n ns → ReadingRefused bs n x → ⊥
 read_or_not g (short_list h) = let few = g.enough in omega arith
 read_or_not g (by_text h r) = never_both g.given r
 
-pub accepts_read : {bs : List ℕ} {n : ℕ} {ns : List ParsedNode} → Readable bs n ns → Accepts bs n ns
+pub accepts_read : {bs : List ℕ} {n : ℕ} {ns : List ParsedNode} → ReadingGives bs n ns → OnlyGives bs n ns
 accepts_read g = sole (λ y z. read_same) (λ y z. read_or_not) g
 
-pub refuses_unread : {bs : List ℕ} {n : ℕ} (f : TextRefusal) → Unreadable bs n (number_and_place f) → Refuses bs n f
+pub refuses_unread : {bs : List ℕ} {n : ℕ} (f : TextRefusal) → ReadingRefused bs n (number_and_place f) → OnlyRefused bs n f
 refuses_unread f r = sole (λ y z. unread_same) (λ y z q g. read_or_not g q) r

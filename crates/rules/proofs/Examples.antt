@@ -1,7 +1,7 @@
 -- The examples, by the machine. Assumes nothing.
 use Rattle.std.proofs.Common.{codes, refl, inl, arith}
 use Rattle.rules.specs.declared.refusal.TextRefusal.TheVariants.{NotAllowed}
-use Rattle.rules.specs.Answer.{unfit}
+use Rattle.rules.specs.Texts.{unfit}
 use Rattle.rules.specs.Examples.{WorkedTexts}
 use Rattle.rules.proofs.Answering.{fit, accepting, turns_away}
 

@@ -12,7 +12,7 @@ use Rattle.rules.specs.declared.syntax.ParsedNode.{ParsedNode}
 use Rattle.rules.specs.declared.node.Edge.{Edge}
 use Rattle.rules.specs.declared.node.Edge.TheVariants.{Child}
 use Rattle.rules.specs.Machine.{lex, start, root, after, more, on_double, on_after, stuck, on_test, with_node, over, go, run, from, accepts}
-use Rattle.rules.specs.Answer.{Unfit, IsRefused, unfit}
+use Rattle.rules.specs.Texts.{Unfit, TextRefused, unfit}
 use Rattle.rules.specs.Parsing.{Lies, Parses}
 use Rattle.rules.proofs.Answering.{fit, turns_away, accepting}
 use Rattle.rules.specs.Readers.{told, bytes, left, made, front, Unopened, Fresh, Kept, Expected, Unexpected, Enters, first, Begun, Joined, Room, StepRead, StepFails, PathFails}
@@ -47,10 +47,10 @@ further_fails {x = x} {w = w} {edge = edge} {edge' = edge'} {last = last} n room
 -- the whole text
 
 -- what the text is refused for, from the number of its bytes
-pub empty_fails : (bs : List ℕ) → length bs ≡ 0 → IsRefused bs (10, 0)
+pub empty_fails : (bs : List ℕ) → length bs ≡ 0 → TextRefused bs (10, 0)
 empty_fails bs h = unfit (inl h)
 
-pub long_fails : (bs : List ℕ) → text_limit < length bs → IsRefused bs (10, 0)
+pub long_fails : (bs : List ℕ) → text_limit < length bs → TextRefused bs (10, 0)
 long_fails bs h = unfit (inr h)
 
 -- a token that is not the last stands before those that are left behind it
@@ -72,7 +72,7 @@ module _ (bs : List ℕ) (e : Reader) (new : Fresh bs e) (some : false ≡ eqb (
   all_left i = from (sym new.whole i) (sym new.front i)
 
   -- no text begins with another token
-  pub start_fails : (f : TextRefusal) → Unexpected e DoubleSlash f → IsRefused bs (number_and_place f)
+  pub start_fails : (f : TextRefusal) → Unexpected e DoubleSlash f → TextRefused bs (number_and_place f)
   start_fails f h =
       let here : run (left e) start ≡ told f = search rules in
       turns_away bs f fits (ap (λ ts. run ts start) all_left ∙ here)
@@ -88,7 +88,7 @@ module _ (bs : List ℕ) (e : Reader) (new : Fresh bs e) (some : false ≡ eqb (
         let nothing : [] ≡ made x = sym (p.made_same ∙ new.none) in
         record { nodes_are = nothing; moves_on = λ t _. ap (λ ns. on_test t.kind (with_node 0 Child [] ns t)) nothing }
 
-    pub step_fails : (f : TextRefusal) → StepFails x 0 Child bracket_limit f → IsRefused bs (number_and_place f)
+    pub step_fails : (f : TextRefusal) → StepFails x 0 Child bracket_limit f → TextRefused bs (number_and_place f)
     step_fails f s = turns_away bs f fits (to_root ∙ s [] root refl at_root)
 
     pub stepped : (y : Reader) (n : ℕ) → StepRead x y 0 Child bracket_limit n → Stepped bs y
@@ -118,7 +118,7 @@ only_end Name n ns u r = refl
 only_end Stray n ns u r = refl
 only_end End n ns u r = absurd (r refl)
 
-pub end_fails : (bs : List ℕ) (y : Reader) (f : TextRefusal) → Stepped bs y → Unexpected y End f → IsRefused bs (number_and_place f)
+pub end_fails : (bs : List ℕ) (y : Reader) (f : TextRefusal) → Stepped bs y → Unexpected y End f → TextRefused bs (number_and_place f)
 end_fails bs y f s h =
     let t = h.token in
     let n = s.leads.0 in

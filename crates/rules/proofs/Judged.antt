@@ -9,7 +9,7 @@ use Rattle.rules.specs.declared.syntax.ParsedNode.{ParsedNode}
 use Rattle.labels.specs.Spelling.{name_limit}
 use Rattle.rules.specs.Limits.{node_limit, bracket_limit}
 use Rattle.rules.specs.Grammar.{Test, name, star, Begins}
-use Rattle.rules.specs.Reading.{is_test, is_open, is_close, count, Offends, not_allowed, many_tests, long_name, deep_bracket, Clear, ComesBefore, same, not_allowed_first, many_before_long, Accepted, Refused}
+use Rattle.rules.specs.Tokens.{is_test, is_open, is_close, count, Offends, not_allowed, many_tests, long_name, deep_bracket, Clear, ComesBefore, same, not_allowed_first, many_before_long, TokensGive, TokensRefused}
 use Rattle.rules.specs.Machine.{State, start, root, after, opened, dotted, below, more, ended, Moved, to, stuck, on_double, on_test, on_path, on_after, move, moves, Answer, accepts, refuses, unfinished, nodes, depth, over, go, excess, run}
 use Rattle.rules.proofs.Machine.{sound, begins, begins_not, moves_append, no_move}
 
@@ -215,8 +215,8 @@ clear_more before t c h a u b k e o =
 
 -- what an answer says of the tokens
 abbrev pub Right : List Token → Answer → Type 0
-Right ts (accepts ns) = Accepted ts ns
-Right ts (refuses k p) = Refused ts k p
+Right ts (accepts ns) = TokensGive ts ns
+Right ts (refuses k p) = TokensRefused ts k p
 Right ts unfinished = Unit {0}
 
 pub record Sofar (before : List Token) (s : State) : Type 0 where
@@ -276,8 +276,8 @@ answer [] before (dotted n outer ns) h = tt
 answer [] before (below n outer ns) h = tt
 answer [] before (more e n k outer ns) h = tt
 answer [] before (ended ns) h =
-    let whole : Accepted before ns = record { formed = sound before ns h.moved; clear = h.clear } in
-    subst (λ ts. Accepted ts ns) (sym (append-nil before)) whole
+    let whole : TokensGive before ns = record { formed = sound before ns h.moved; clear = h.clear } in
+    subst (λ ts. TokensGive ts ns) (sym (append-nil before)) whole
 answer (t ∷ ts) before s h = next t ts before s h (λ a u g. answer ts a u g) (move s t) refl (excess s t) refl
 
 clear_none : Clear []

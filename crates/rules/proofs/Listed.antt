@@ -15,10 +15,10 @@ use Rattle.rules.specs.XPath.{LocationPath, Context, ChildOf, Selected}
 use Rattle.rules.specs.Expression.{token_bytes, is_star, plain, rule_nodes_of, ParentIn, CalledIn, expression, TextStandsFor, stands_for, SelectsAlike, PlainReadings}
 use Rattle.rules.specs.Lexing.{Lexes}
 use Rattle.rules.specs.Machine.{to, ended, start, moves}
-use Rattle.rules.specs.Answer.{Gives, gives}
+use Rattle.rules.specs.Texts.{TextGives, gives}
 use Rattle.rules.proofs.Machine.{complete}
 use Rattle.rules.proofs.Words.{unique}
-use Rattle.rules.specs.Naming.{NamesIn, behind, named, unnamed}
+use Rattle.rules.specs.ReadText.{NamesIn, behind, named, unnamed}
 use Rattle.rules.proofs.Selects.{slice_get_within, below_then, below_from, below_last, inner_below, outer_below, MeetsNode, Mapping, selected_maps, mapping_selected}
 
 pub some_at : {X : Type 0} (xs : List X) (k : ℕ) → k < length xs → (y : X) × (slice_get xs k ≡ Some y)
@@ -145,7 +145,7 @@ selects_alike {L} same spelled alike tied bs ts ns l d before labels names p (st
 
 -- a rule text with the rule nodes that it gives, and their names in a list of labels
 pub text_selects_alike : (L : Type 0) (same : L → L → Bool) (spelled : L → List ℕ) (alike : List ℕ → List ℕ → Bool) → ((a b : L) → same a b ≡ alike (spelled a) (spelled b))
-    → (bs : List ℕ) (ns : List ParsedNode) (before labels : List L) → Gives bs ns → NamesIn spelled bs ns before labels
+    → (bs : List ℕ) (ns : List ParsedNode) (before labels : List L) → TextGives bs ns → NamesIn spelled bs ns before labels
     → ((p : LocationPath) × TextStandsFor bs p) × SelectsAlike same spelled alike bs (rule_nodes_of ns) labels
 text_selects_alike L same spelled alike tied bs ns before labels (gives {ts = ts} f l a) names =
     ((expression bs a.formed, stands_for l a.formed), selects_alike same spelled alike tied bs ts ns l a.formed before labels names)

@@ -10,7 +10,7 @@ use Rattle.rules.specs.declared.node.Edge.{Edge}
 use Rattle.rules.specs.declared.node.Edge.TheVariants.{Child, Descendant}
 use Rattle.rules.specs.declared.syntax.ParsedNode.{ParsedNode}
 use Rattle.rules.specs.Grammar.{node, Text}
-use Rattle.rules.specs.Answer.{Gives, gives}
+use Rattle.rules.specs.Texts.{TextGives, gives}
 use Rattle.rules.specs.Machine.{State, start, root, after, opened, dotted, below, more, ended, Moved, to, stuck, on_double, on_test, on_path, on_after, move, moves}
 use Rattle.rules.proofs.Machine.{no_move, complete}
 
@@ -129,5 +129,5 @@ sane_moves (t ∷ ts) s u h e = go (move s t) refl e (λ v h e. sane_moves ts v 
 pub text_ordered : {ts : List Token} {ns : List ParsedNode} → Text ts ns → Ordered ns
 text_ordered {ts} {ns} t = sane_moves ts start (ended ns) tt (complete t)
 
-pub gives_ordered : (bs : List ℕ) (ns : List ParsedNode) → Gives bs ns → Ordered ns
+pub gives_ordered : (bs : List ℕ) (ns : List ParsedNode) → TextGives bs ns → Ordered ns
 gives_ordered bs ns (gives f l a) = text_ordered a.formed

@@ -8,7 +8,7 @@ use Rattle.rules.specs.declared.syntax.ParsedNode.{ParsedNode}
 use Rattle.labels.specs.declared.name.NameRefusal.{NameRefusal}
 use Rattle.labels.specs.Names.{Making}
 use Rattle.rules.specs.Expression.{token_bytes}
-use Rattle.rules.specs.Naming.{NamesIn, behind, named, unnamed}
+use Rattle.rules.specs.ReadText.{NamesIn, behind, named, unnamed}
 
 abbrev pub blank : ParsedNode
 blank = record { parent = 0; edge = Child; test = record { kind = DoubleSlash; place = 0; len = 0 } }

@@ -4,14 +4,14 @@ use Rattle.rules.specs.declared.syntax.Kind.TheVariants.{Star, Name}
 use Rattle.rules.specs.declared.node.Edge.TheVariants.{Child, Descendant}
 use Rattle.rules.specs.Lexing.{a_token}
 use Rattle.rules.specs.Grammar.{node}
-use Rattle.rules.specs.Answer.{Gives, IsRefused}
+use Rattle.rules.specs.Texts.{TextGives, TextRefused}
 
 pub record WorkedTexts : Type 0 where
   -- the root a, its child b with a child c, and a second child b with a descendant of any name
-  pub two_predicates : Gives (codes "//a[b/c][ .//* ]")
+  pub two_predicates : TextGives (codes "//a[b/c][ .//* ]")
       (node 0 Child (a_token Name 2 1) ∷ node 0 Child (a_token Name 4 1) ∷ node 1 Child (a_token Name 6 1) ∷ node 0 Descendant (a_token Star 13 1) ∷ [])
-  pub double_slash_inside : IsRefused (codes "//a[//b]") (11, 4)
-  pub unclosed : IsRefused (codes "//a[b") (11, 5)
-  pub single_slash : IsRefused (codes "/a") (11, 0)
-  pub dot_and_slash : IsRefused (codes "//a[./b]") (11, 5)
-  pub empty : IsRefused [] (10, 0)
+  pub double_slash_inside : TextRefused (codes "//a[//b]") (11, 4)
+  pub unclosed : TextRefused (codes "//a[b") (11, 5)
+  pub single_slash : TextRefused (codes "/a") (11, 0)
+  pub dot_and_slash : TextRefused (codes "//a[./b]") (11, 5)
+  pub empty : TextRefused [] (10, 0)

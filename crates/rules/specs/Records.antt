@@ -9,7 +9,7 @@ use Rattle.rules.specs.declared.records.UnknownEdge.{UnknownEdge}
 use Rattle.rules.specs.declared.refusal.RecordRefusal.{RecordRefusal}
 use Rattle.rules.specs.declared.rule.Rule.{Rule}
 use Rattle.rules.specs.Limits.{node_limit}
-use Rattle.rules.specs.Nodes.{rule_nodes}
+use Rattle.rules.specs.RuleNodes.{rule_nodes}
 use Rattle.rules.specs.Refusals.{number_and_record}
 use Rattle.labels.specs.Exact.{Sole}
 

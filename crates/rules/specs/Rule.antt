@@ -21,6 +21,7 @@ edge_of rule x = (slice_index_or rule x blank).edge
 abbrev pub any_of : List RuleNode → ℕ → Bool
 any_of rule x = (slice_index_or rule x blank).any
 
+-- as a test, since an invariant has to be a fact that has one proof
 abbrev pub is_child : Edge → Bool
 is_child Child = true
 is_child Descendant = false

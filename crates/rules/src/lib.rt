@@ -3,7 +3,6 @@
 pub mod laws;
 mod lexer;
 pub mod node;
-pub mod nodes;
 mod reader;
 pub mod records;
 pub mod refusal;

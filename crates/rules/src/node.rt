@@ -1,14 +1,13 @@
-// The nodes of a rule.
+//! The nodes of a rule.
 
-// How a rule node hangs under its parent.
-#[derive(Clone, Copy, PartialEq, Eq, Debug, Default)]
+/// How a rule node hangs under its parent.
+#[derive(Clone, Copy, PartialEq, Eq, Debug)]
 pub enum Edge {
-    #[default]
     Child,
     Descendant,
 }
 
-// A rule node: the number of its parent, the edge to it, and whether every label meets its test.
+/// A rule node: the number of its parent, the edge to it, and whether every label meets its test.
 #[derive(Clone, Copy, PartialEq, Eq, Debug)]
 pub struct RuleNode {
     pub parent: usize,

@@ -1,4 +1,4 @@
-// The readers of path, step and predicate.
+//! The readers of path, step and predicate.
 ghost use Rattle.std.specs.Prelude.{◌≤◌, length, MatchResult};
 ghost use Rattle.std.specs.List.{AllByRecursion};
 ghost use Rattle.std.proofs.Props.{props};
@@ -12,10 +12,11 @@ use crate::syntax::{Kind, ParsedNode, Token};
 use arrayvec::ArrayVec;
 use labels::spelling::NAME_LIMIT;
 
-// The bytes of a rule text and the open brackets in it, at most.
+// The bytes that a rule text has at most.
 const TEXT_LIMIT: usize = 1024;
 
-const BRACKETS: usize = 16;
+// The brackets that are open in it at most.
+const BRACKET_LIMIT: usize = 16;
 
 // Reads a rule text, and notes its rule nodes by the places of their tests.
 #[derive(Drop)]
@@ -54,12 +55,12 @@ impl<'a> Reader<'a> {
     fn expect(&mut self, kind: Kind) -> Result<(), TextRefusal>
         ensures { MatchResult result (λ _. Expected self.old self.new kind) (Unexpected self.old kind) }
     {
-        let t = self.peek();
-        if t.kind != kind {
-            return Err(TextRefusal::NotAllowed(t.place));
+        let token = self.peek();
+        if token.kind != kind {
+            return Err(TextRefusal::NotAllowed(token.place));
         }
         // Written out where a token is passed: a method for it would ask that the token lies in the text.
-        self.at = t.place + t.len;
+        self.at = token.place + token.len;
         Ok(())
     }
 
@@ -100,23 +101,23 @@ impl<'a> Reader<'a> {
     fn between(&mut self) -> Option<Edge>
         ensures { MatchOption result (Unjoined self.old self.new) (Joined self.old self.new) }
     {
-        let t = self.peek();
-        let edge = match t.kind {
+        let token = self.peek();
+        let edge = match token.kind {
             Kind::Slash => Edge::Child,
             Kind::DoubleSlash => Edge::Descendant,
             _ => return None,
         };
-        self.at = t.place + t.len;
+        self.at = token.place + token.len;
         Some(edge)
     }
 
-    // Reads a path in a predicate of the step `n`, where so many brackets may still be opened.
+    // Reads a path in a predicate of the step `parent`, where so many brackets may still be opened.
     #[cycle(path_predicate_step)]
-    fn path(&mut self, n: usize, room: usize) -> Result<(), TextRefusal>
-        ensures { MatchResult result (λ _. PathRead self.old self.new n room) (PathFails self.old n room) }
+    fn path(&mut self, parent: usize, room: usize) -> Result<(), TextRefusal>
+        ensures { MatchResult result (λ _. PathRead self.old self.new parent room) (PathFails self.old parent room) }
     {
         let edge = self.begin()?;
-        let mut last = self.step(n, edge, room)?;
+        let mut last = self.step(parent, edge, room)?;
         while let Some(edge) = self.between() {
             last = self.step(last, edge, room)?;
         }
@@ -135,17 +136,17 @@ impl<'a> Reader<'a> {
         Ok(number)
     }
 
-    // Reads a predicate of the step `n`, brackets and all.
+    // Reads a predicate of the step `parent`, brackets and all.
     #[cycle(path_predicate_step)]
-    fn predicate(&mut self, n: usize, room: usize) -> Result<(), TextRefusal>
+    fn predicate(&mut self, parent: usize, room: usize) -> Result<(), TextRefusal>
         requires { front (left self.old) ≡ Open }
-        ensures { MatchResult result (λ _. PredicateRead self.old self.new n room) (PredicateFails self.old n room) }
+        ensures { MatchResult result (λ _. PredicateRead self.old self.new parent room) (PredicateFails self.old parent room) }
     {
         if room == 0 {
             return Err(TextRefusal::DeepBracket(self.peek().place));
         }
         self.expect(Kind::Open)?;
-        self.path(n, room - 1)?;
+        self.path(parent, room - 1)?;
         self.expect(Kind::Close)
     }
 }
@@ -160,7 +161,7 @@ pub fn parse(text: &[u8]) -> Result<ArrayVec<ParsedNode, RULE_NODES>, TextRefusa
     }
     let mut reader = Reader::new(text);
     reader.expect(Kind::DoubleSlash)?;
-    reader.step(0, Edge::Child, BRACKETS)?;
+    reader.step(0, Edge::Child, BRACKET_LIMIT)?;
     reader.expect(Kind::End)?;
     Ok(reader.nodes)
 }

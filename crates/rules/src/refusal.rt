@@ -5,8 +5,7 @@ ghost use Rattle.rules.specs.Refusals.{number, place, printed_text, record_numbe
 use std::error::Error;
 use std::fmt;
 
-// Why a rule text is refused, with the place. Each kind of refusal has numbers, values and a printing of its own, and nothing
-// asks them of a refusal whose kind it doesn't know: a trait over the kinds would be one more name, and no match less.
+/// Why a rule text is refused, with the place.
 #[derive(Clone, Copy, PartialEq, Eq, Debug)]
 pub enum TextRefusal {
     ShortList,

@@ -1,4 +1,4 @@
-// The tokens of a rule text and the rule nodes that it gives.
+//! The tokens of a rule text and the rule nodes that it gives.
 use crate::node::Edge;
 
 #[derive(Clone, Copy, PartialEq, Eq, Default)]
@@ -22,10 +22,21 @@ pub struct Token {
     pub len: usize,
 }
 
-// A rule node as read: its test is the token.
-#[derive(Clone, Copy, Default)]
+/// A rule node as read: its test is the token.
+#[derive(Clone, Copy)]
 pub struct ParsedNode {
     pub parent: usize,
     pub edge: Edge,
     pub test: Token,
+}
+
+/// What stands in the unused places of an `ArrayVec`.
+impl Default for ParsedNode {
+    fn default() -> ParsedNode {
+        ParsedNode {
+            parent: 0,
+            edge: Edge::Child,
+            test: Token::default(),
+        }
+    }
 }

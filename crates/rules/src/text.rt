@@ -1,12 +1,12 @@
-// Rules from rule texts.
+//! Rules from rule texts.
 ghost use Rattle.std.specs.Prelude.{◌≡◌, ◌<◌, ◌≤◌, length, MatchResult};
 ghost use Rattle.std.specs.List.{AllByRecursion};
 ghost use Rattle.rules.specs.Parsing.{Lies};
 ghost use Rattle.rules.specs.Rule.{Rooted, Ordered};
-ghost use Rattle.rules.specs.Nodes.{rule_nodes};
+ghost use Rattle.rules.specs.RuleNodes.{rule_nodes};
 ghost use Rattle.rules.specs.Expression.{rule_nodes_of};
 ghost use Rattle.rules.specs.Limits.{node_limit};
-ghost use Rattle.rules.specs.Naming.{NamesIn, ReadInto, Unread, Refuses};
+ghost use Rattle.rules.specs.ReadText.{NamesIn, ReadInto, Unread, OnlyRefused};
 
 use crate::node::RuleNode;
 use crate::reader::parse;
@@ -38,7 +38,7 @@ fn rule_of(nodes: &[ParsedNode]) -> Rule
     ensures { rule_nodes result ≡ rule_nodes_of nodes.now }
 {
     let mut made = [RuleNode::ANY; RULE_NODES];
-    // By index: a zip with `iter_mut` was tried, and its proof did not close.
+    // By index, since the proof goes by the places that are written.
     for (i, node) in nodes.iter().enumerate() {
         made[i] = RuleNode::from(*node);
     }
@@ -66,7 +66,7 @@ fn write_names<N: NameLabel>(text: &[u8], nodes: &[ParsedNode], names: &mut [N])
 
 // The rule of a rule text; the names of its named rule nodes go into `names` at their numbers.
 fn read<N: NameLabel>(text: &[u8], names: &mut [N]) -> Result<Rule, TextRefusal>
-    ensures { MatchResult result (λ rule. ReadInto N.eq N.spelled N.alike text.now rule names.old names.new) (λ f. Refuses text.now (length names.old) f × (names.new ≡ names.old)) }
+    ensures { MatchResult result (λ rule. ReadInto N.eq N.spelled N.alike text.now rule names.old names.new) (λ f. OnlyRefused text.now (length names.old) f × (names.new ≡ names.old)) }
 {
     if names.len() < RULE_NODES {
         return Err(TextRefusal::ShortList);

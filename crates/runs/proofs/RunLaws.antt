@@ -3,7 +3,7 @@ use Rattle.std.proofs.Common.{◌≡◌, List, [], Some, Ok, Err, Result, refl, 
 use mathlib.Core.HLevel.{is_prop→PathP}
 use mathlib.Core.Logic.{∥∥₁_prop}
 use Rattle.rules.specs.declared.node.RuleNode.{RuleNode}
-use Rattle.rules.specs.Nodes.{rule_nodes}
+use Rattle.rules.specs.RuleNodes.{rule_nodes}
 use Rattle.rules.proofs.Selects.{slice_get_within}
 use Rattle.runs.specs.declared.refusal.Refusal.{Refusal}
 use Rattle.runs.specs.declared.run.Run.{Run}

@@ -1,7 +1,7 @@
 -- What the calls of a run do, by the states of the reference model that it stands for.
 use Rattle.std.specs.Prelude.{◌≡◌, ℕ, ◌<◌, ◌≤◌, ◌↔◌, List, ◌++◌, length, take, drop, Ok, Err, Result}
 use Rattle.rules.specs.declared.node.RuleNode.{RuleNode}
-use Rattle.rules.specs.Nodes.{rule_nodes}
+use Rattle.rules.specs.RuleNodes.{rule_nodes}
 use Rattle.runs.specs.declared.refusal.Refusal.{Refusal}
 use Rattle.runs.specs.declared.call.Call.{Call}
 use Rattle.runs.specs.declared.call.Call.TheVariants as call

@@ -1,7 +1,7 @@
 // The calls of a run.
 ghost use Rattle.std.specs.Prelude.{◌≡◌, length};
 ghost use Rattle.rules.specs.Embedding.{Meets};
-ghost use Rattle.rules.specs.Nodes.{rule_nodes};
+ghost use Rattle.rules.specs.RuleNodes.{rule_nodes};
 ghost use Rattle.runs.specs.declared.call.Call.TheVariants.{Close};
 ghost use Rattle.runs.specs.Model.{empty, closed};
 ghost use Rattle.runs.specs.Calls.{StandsFor, Tells, Steps, Opening, Hands, Unaltered};

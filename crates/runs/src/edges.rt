@@ -1,6 +1,6 @@
 // The step of a closing that looks at the edges of a rule.
 ghost use Rattle.std.specs.Prelude.{ℕ, ◌↔◌};
-ghost use Rattle.rules.specs.Nodes.{rule_nodes};
+ghost use Rattle.rules.specs.RuleNodes.{rule_nodes};
 ghost use Rattle.runs.specs.Bits.{Has};
 ghost use Rattle.runs.specs.Edges.{EdgesMet};
 

@@ -1,5 +1,5 @@
 // The value of a run.
-ghost use Rattle.rules.specs.Nodes.{rule_nodes};
+ghost use Rattle.rules.specs.RuleNodes.{rule_nodes};
 ghost use Rattle.runs.specs.Stands.{Tree, Stands};
 
 use crate::levels::Levels;

@@ -1,7 +1,7 @@
 // The search for the rule nodes whose tests a label meets.
 ghost use Rattle.std.specs.Prelude.{◌≡◌, ℕ, ◌<◌, true, ◌↔◌, length};
 ghost use Rattle.rules.specs.Rule.{any_of};
-ghost use Rattle.rules.specs.Nodes.{rule_nodes};
+ghost use Rattle.rules.specs.RuleNodes.{rule_nodes};
 ghost use Rattle.rules.specs.Embedding.{Meets};
 ghost use Rattle.runs.specs.Bits.{Has};
 

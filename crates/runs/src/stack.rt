@@ -1,6 +1,6 @@
 // The calls, on the levels and the ring.
 ghost use Rattle.std.specs.Prelude.{◌≡◌, ◌<◌};
-ghost use Rattle.rules.specs.Nodes.{rule_nodes};
+ghost use Rattle.rules.specs.RuleNodes.{rule_nodes};
 ghost use Rattle.runs.specs.Words.{new_level, words, no_words, Opens, Closes, Takes, Waits, Merges, Kept};
 
 use crate::edges::edges_met;

@@ -3,10 +3,10 @@ use Rattle.std.proofs.lemmas.Result.{err_from_is_err_and}
 use Rattle.rules.specs.declared.node.RuleNode.{RuleNode}
 use Rattle.rules.specs.declared.syntax.ParsedNode.{ParsedNode}
 use Rattle.rules.specs.declared.refusal.TextRefusal.TheVariants.{ShortList}
-use Rattle.rules.specs.Answer.{Gives}
-use Rattle.rules.specs.Nodes.{rule_nodes}
+use Rattle.rules.specs.Texts.{TextGives}
+use Rattle.rules.specs.RuleNodes.{rule_nodes}
 use Rattle.rules.specs.Expression.{rule_nodes_of, SelectsAlike}
-use Rattle.rules.specs.Naming.{short_list, by_text}
+use Rattle.rules.specs.ReadText.{short_list, by_text}
 use Rattle.rules.proofs.Formed.{given_some, given_rooted, given_ordered}
 use Rattle.rules.proofs.Answering.{accepts_read, refuses_unread}
 use Rattle.rules.proofs.Listed.{text_selects_alike}
@@ -22,14 +22,14 @@ returns-in_err-parsed g c =
 
 pub rule_of-rule-requires : goal.rule_of-rule-requires
 rule_of-rule-requires g c =
-    let given : Gives c.args.text.now c.as_slice-nodes.result.now = rw c.as_slice-nodes.ensures.value c.in_ok-parsed.ensures.reads in
+    let given : TextGives c.args.text.now c.as_slice-nodes.result.now = rw c.as_slice-nodes.ensures.value c.in_ok-parsed.ensures.reads in
     record { some = given_some given; few = c.as_slice-nodes.ensures.fits; rooted = given_rooted given; ordered = given_ordered given }
 
 pub returns : goal.returns
 returns g c =
     let bs : List ℕ = c.args.text.now in
     let ns : List ParsedNode = c.as_slice-nodes.result.now in
-    let given : Gives bs ns = rw c.as_slice-nodes.ensures.value c.in_ok-parsed.ensures.reads in
+    let given : TextGives bs ns = rw c.as_slice-nodes.ensures.value c.in_ok-parsed.ensures.reads in
     let made : rule_nodes c.rule_of-rule.result ≡ rule_nodes_of ns = c.rule_of-rule.ensures in
     let r = text_selects_alike g.row.N.Denot g.N.PartialEq.eq g.N.NameLabel.spelled g.N.NameLabel.alike g.met.N.NameLabel.tied bs ns c.args.names.now c.write_names.new.names given c.write_names.ensures in
     record {

@@ -1,5 +1,5 @@
 use Rattle.std.proofs.Common.{◌≡◌, length, take}
-use Rattle.rules.specs.Naming.{NamesIn}
+use Rattle.rules.specs.ReadText.{NamesIn}
 use Rattle.rules.proofs.text.write_names.Given as goal
 
 abbrev pub invariant-loop-i : goal.invariant-loop-i

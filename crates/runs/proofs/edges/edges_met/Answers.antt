@@ -3,7 +3,7 @@ use Rattle.std.proofs.lemmas.Bool.Decides.{not_from_Decides}
 use Rattle.rules.specs.declared.node.Edge.{Edge}
 use Rattle.rules.specs.declared.node.RuleNode.{RuleNode}
 use Rattle.rules.specs.Rule.{parent_of, edge_of, Ordered}
-use Rattle.rules.specs.Nodes.{rule_nodes}
+use Rattle.rules.specs.RuleNodes.{rule_nodes}
 use Rattle.rules.proofs.RuleLaws.{few_nodes}
 use Rattle.runs.specs.Bits.{Has}
 use Rattle.runs.specs.Edges.{asked, EdgesMet}

@@ -2,7 +2,7 @@ use Rattle.std.proofs.Common.{◌≡◌, ℕ, ◌+◌, ◌<◌, true, List, leng
 use Rattle.std.proofs.lemmas.Bool.{both_ways}
 use Rattle.rules.specs.declared.node.RuleNode.{RuleNode}
 use Rattle.rules.specs.Rule.{any_of}
-use Rattle.rules.specs.Nodes.{rule_nodes}
+use Rattle.rules.specs.RuleNodes.{rule_nodes}
 use Rattle.rules.proofs.RuleLaws.{few_nodes}
 use Rattle.runs.proofs.BitLaws.{has_none}
 use Rattle.runs.proofs.SetLaws.{Grown, grown_none, grown_yes, grown_no}

@@ -1,6 +1,6 @@
 use Rattle.std.proofs.Common.{◌≡◌, ℕ, true}
 use Rattle.rules.specs.Rule.{any_of}
-use Rattle.rules.specs.Nodes.{rule_nodes}
+use Rattle.rules.specs.RuleNodes.{rule_nodes}
 use Rattle.runs.proofs.SetLaws.{Grown}
 use Rattle.runs.proofs.search.any_nodes.Given as goal
 

@@ -7,7 +7,7 @@ use Rattle.runs.specs.Words.{Words, Closes, Found, words, stacked, queued, merge
 use Rattle.runs.specs.Bits.{Has}
 use Rattle.runs.specs.Edges.{EdgesMet}
 use Rattle.rules.specs.declared.node.RuleNode.{RuleNode}
-use Rattle.rules.specs.Nodes.{rule_nodes}
+use Rattle.rules.specs.RuleNodes.{rule_nodes}
 use Rattle.runs.specs.declared.levels.Levels.{Levels}
 use Rattle.runs.proofs.WordLaws.{stacked_top, length_queued}
 use Rattle.runs.proofs.levels.Levels.close.Goals as goal

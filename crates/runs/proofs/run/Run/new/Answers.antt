@@ -1,5 +1,5 @@
 use Rattle.std.proofs.Common.{sym, refl, subst}
-use Rattle.rules.specs.Nodes.{rule_nodes}
+use Rattle.rules.specs.RuleNodes.{rule_nodes}
 use Rattle.runs.specs.Words.{Words}
 use Rattle.runs.specs.Model.{empty}
 use Rattle.runs.specs.Stands.{Shows}

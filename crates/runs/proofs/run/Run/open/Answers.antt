@@ -1,6 +1,6 @@
 use Rattle.std.proofs.Common.{refl}
 use mathlib.Core.Logic.{∥∥₁_map}
-use Rattle.rules.specs.Nodes.{rule_nodes}
+use Rattle.rules.specs.RuleNodes.{rule_nodes}
 use Rattle.runs.proofs.OpenSim.{open_sim}
 use Rattle.runs.proofs.RunLaws.{run_kept}
 use Rattle.runs.proofs.run.Run.open.Goals as goal

@@ -1,5 +1,5 @@
 use Rattle.std.proofs.Common.{sym, ◌∙◌}
-use Rattle.rules.specs.Nodes.{rule_nodes}
+use Rattle.rules.specs.RuleNodes.{rule_nodes}
 use Rattle.runs.specs.Words.{stacked}
 use Rattle.runs.proofs.WordLaws.{length_stacked}
 use Rattle.runs.proofs.OpenSim.{same_length}

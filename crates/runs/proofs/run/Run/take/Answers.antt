@@ -1,6 +1,6 @@
 use Rattle.std.proofs.Common.{length, refl, arith}
 use mathlib.Core.Logic.{∥∥₁_map}
-use Rattle.rules.specs.Nodes.{rule_nodes}
+use Rattle.rules.specs.RuleNodes.{rule_nodes}
 use Rattle.runs.specs.Words.{words}
 use Rattle.runs.specs.Model.{taking}
 use Rattle.runs.proofs.TakeSim.{take_does, take_list, take_shows}

@@ -4,17 +4,17 @@ use Rattle.rules.specs.declared.syntax.Token.{Token}
 use Rattle.rules.specs.declared.syntax.ParsedNode.{ParsedNode}
 use Rattle.rules.specs.Limits.{text_limit}
 use Rattle.rules.specs.Lexing.{Lexes}
-use Rattle.rules.specs.Reading.{Accepted, Refused}
+use Rattle.rules.specs.Tokens.{TokensGive, TokensRefused}
 
 -- bs is no text of 1 to 1,024 bytes
 abbrev pub Unfit : List ℕ → Type 0
 Unfit bs = (length bs ≡ 0) ⊎ (text_limit < length bs)
 
 -- the rule text bs gives the rule nodes ns
-pub data Gives (bs : List ℕ) (ns : List ParsedNode) : Type 0 where
-  gives : {ts : List Token} → (Unfit bs → ⊥) → Lexes 0 bs ts → Accepted ts ns → Gives bs ns
+pub data TextGives (bs : List ℕ) (ns : List ParsedNode) : Type 0 where
+  gives : {ts : List Token} → (Unfit bs → ⊥) → Lexes 0 bs ts → TokensGive ts ns → TextGives bs ns
 
 -- the rule text bs is refused with a number at a place
-pub data IsRefused (bs : List ℕ) : ℕ × ℕ → Type 0 where
-  unfit : Unfit bs → IsRefused bs (10, 0)
-  refused : {ts : List Token} {k p : ℕ} → (Unfit bs → ⊥) → Lexes 0 bs ts → Refused ts k p → IsRefused bs (k, p)
+pub data TextRefused (bs : List ℕ) : ℕ × ℕ → Type 0 where
+  unfit : Unfit bs → TextRefused bs (10, 0)
+  refused : {ts : List Token} {k p : ℕ} → (Unfit bs → ⊥) → Lexes 0 bs ts → TokensRefused ts k p → TextRefused bs (k, p)

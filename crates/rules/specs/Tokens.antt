@@ -48,12 +48,13 @@ pub data ComesBefore : ℕ → ℕ → Type 0 where
   many_before_deep : ComesBefore 13 14
   long_before_deep : ComesBefore 12 14
 
-pub record Accepted (ts : List Token) (ns : List ParsedNode) : Type 0 where
+-- the tokens are a rule text of which nothing offends, and give the rule nodes
+pub record TokensGive (ts : List Token) (ns : List ParsedNode) : Type 0 where
   pub formed : Text ts ns
   pub clear : Clear ts
 
 -- The first token that offends, and the first of what is wrong with it. The tokens before it begin some rule text.
-pub record Refused (ts : List Token) (k p : ℕ) : Type 0 where
+pub record TokensRefused (ts : List Token) (k p : ℕ) : Type 0 where
   pub before : List Token
   pub at : Token
   pub rest : List Token
