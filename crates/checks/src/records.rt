@@ -1,5 +1,6 @@
 // Rules from records, and their refusals at the limits.
 use rules::node::{Edge, RuleNode};
+use rules::records::UnknownEdge;
 use rules::refusal::RecordRefusal;
 use rules::rule::Rule;
 
@@ -58,6 +59,19 @@ fn sizes(rt: HostRuntime) {
     assert_eq!(rt; count(&bytes), Err(RecordRefusal::Size));
     assert_eq!(rt; RecordRefusal::Size.number(), 15);
     assert_eq!(rt; RecordRefusal::Size.record(), None);
+}
+
+// The size comes before what the records hold.
+#[test]
+fn size_comes_first(rt: HostRuntime) {
+    assert_eq!(rt; count(&[9; 195]), Err(RecordRefusal::Size));
+}
+
+#[test]
+fn edges(rt: HostRuntime) {
+    assert_eq!(rt; Edge::try_from(0), Ok(Edge::Child));
+    assert_eq!(rt; Edge::try_from(1), Ok(Edge::Descendant));
+    assert_eq!(rt; Edge::try_from(2), Err(UnknownEdge(2)));
 }
 
 #[test]

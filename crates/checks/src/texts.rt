@@ -38,6 +38,7 @@ fn lengths(rt: HostRuntime) {
     text[2] = b'*';
     assert_eq!(rt; count(&text[0..1024]), Ok(1));
     assert_eq!(rt; count(&text), Err(TextRefusal::Length));
+    assert_eq!(rt; count(&[b'x'; 1025]), Err(TextRefusal::Length));
 }
 
 #[test]
@@ -68,12 +69,11 @@ fn tests(rt: HostRuntime) {
 
 #[test]
 fn named_last_test(rt: HostRuntime) {
-    let mut text = [b'n'; 227];
+    let mut text = [b'n'; 195];
     write_tests(&mut text[..192]);
     text[192] = b'[';
-    assert_eq!(rt; count(&text[0..192]), Ok(64));
     text[194] = b']';
-    assert_eq!(rt; count(&text[0..195]), Err(TextRefusal::ManyTests(193)));
+    assert_eq!(rt; count(&text), Err(TextRefusal::ManyTests(193)));
 }
 
 #[test]
@@ -141,10 +141,10 @@ fn first_bytes(text: &[u8]) -> Result<[Option<u8>; 4], NameRefusal> {
     let mut names = [Name::try_from(b"old".as_slice())?; 64];
     let _ = rule.read_text(text, &mut names);
     Ok([
-        names[0].byte(0),
-        names[1].byte(0),
-        names[2].byte(0),
-        names[3].byte(0),
+        names[0].bytes().first().copied(),
+        names[1].bytes().first().copied(),
+        names[2].bytes().first().copied(),
+        names[3].bytes().first().copied(),
     ])
 }
 
@@ -152,6 +152,17 @@ fn first_bytes(text: &[u8]) -> Result<[Option<u8>; 4], NameRefusal> {
 fn names_at_their_numbers(rt: HostRuntime) {
     assert!(rt; first_bytes(b"//a[*[b]]") == Ok([Some(b'a'), Some(b'o'), Some(b'b'), Some(b'o')]));
     assert!(rt; first_bytes(b"//a[b][c") == Ok([Some(b'o'), Some(b'o'), Some(b'o'), Some(b'o')]));
+}
+
+#[test]
+fn numbers_and_places(rt: HostRuntime) {
+    let told = |refusal: TextRefusal| (refusal.number(), refusal.place());
+    assert_eq!(rt; told(TextRefusal::Length), (10, 0));
+    assert_eq!(rt; told(TextRefusal::NotAllowed(7)), (11, 7));
+    assert_eq!(rt; told(TextRefusal::LongName(7)), (12, 7));
+    assert_eq!(rt; told(TextRefusal::ManyTests(7)), (13, 7));
+    assert_eq!(rt; told(TextRefusal::DeepBracket(7)), (14, 7));
+    assert_eq!(rt; told(TextRefusal::ShortList), (17, 0));
 }
 
 #[test]
@@ -166,4 +177,6 @@ fn short_list(rt: HostRuntime) {
         rule.read_text(b"", &mut names),
         Err(TextRefusal::ShortList)
     );
+    assert_eq!(rt; rule.nodes(), Rule::new().nodes());
+    assert_eq!(rt; names[0], Name::empty());
 }

@@ -65,7 +65,7 @@ words_one x y s = λ i. record {
   fourth_fits = is_prop→PathP (λ i. s.fourth i < 256 ^ min 8 (s.len i - 24)) (λ i. le_prop) x.fourth_fits y.fourth_fits i;
 }
 
-pub bytes_one : (x y : Name) → bytes_of x ≡ bytes_of y → x ≡ y
+bytes_one : (x y : Name) → bytes_of x ≡ bytes_of y → x ≡ y
 bytes_one x y e = words_one x y (same_words x y e)
 
 -- the digits of what bytes write are the bytes
@@ -124,7 +124,7 @@ word_back bs p h =
 eight_more : (bs : List ℕ) (p q : ℕ) → q ≡ p + 8 → take 8 (drop p bs) ++ drop q bs ≡ drop p bs
 eight_more bs p q e = ap (λ (k : ℕ). take 8 (drop p bs) ++ drop k bs) e ∙ ap (λ (ds : List ℕ). take 8 (drop p bs) ++ ds) (sym (drop-drop 8 p bs)) ∙ take-append-drop 8 (drop p bs)
 
-pub name_bytes : (bs : List ℕ) → length bs ≤ name_limit → AllByRecursion (λ b. b < 256) bs → bytes_of (name_of bs) ≡ bs
+name_bytes : (bs : List ℕ) → length bs ≤ name_limit → AllByRecursion (λ b. b < 256) bs → bytes_of (name_of bs) ≡ bs
 unfolding name_of
 name_bytes bs few h =
     let len : min name_limit (length bs) ≡ length bs = omega arith in

@@ -1,5 +1,5 @@
 -- The bytes of a name, and that comparing names is comparing them.
-use Rattle.std.specs.Prelude.{◌≡◌, ℕ, zero, suc, ◌+◌, ◌-◌, ◌/◌, ◌%◌, ◌^◌, ◌<◌, ◌≤◌, min, Bool, true, false, ◌==◌, ◌&&◌, ◌↔◌, List, ◌++◌, length, take, drop, refl}
+use Rattle.std.specs.Prelude.{◌≡◌, ℕ, zero, suc, ◌+◌, ◌-◌, ◌/◌, ◌%◌, ◌^◌, ◌<◌, ◌≤◌, min, Bool, true, false, ◌==◌, ◌&&◌, List, ◌++◌, length, take, drop, refl}
 use Rattle.std.proofs.Common.{sym, ap, subst, ◌∙◌, arith, pow-suc}
 use Rattle.std.specs.Str.{bytes_eq}
 use Rattle.std.proofs.lemmas.Slice.Eq.{bytes_eq-Decides}
@@ -13,7 +13,7 @@ pub length_digits : (n w : ℕ) → length (digits n w) ≡ n
 length_digits zero w = refl
 length_digits (suc n) w = length_push (digits n (w / 256)) (w % 256) ∙ let e : length (digits n (w / 256)) + 1 ≡ suc n = omega (arith, length_digits n (w / 256)) in e
 
-pub digits_inj : (n w w' : ℕ) → w < 256 ^ n → w' < 256 ^ n → digits n w ≡ digits n w' → w ≡ w'
+digits_inj : (n w w' : ℕ) → w < 256 ^ n → w' < 256 ^ n → digits n w ≡ digits n w' → w ≡ w'
 digits_inj zero w w' h h' e = omega arith
 digits_inj (suc n) w w' h h' e =
     let s = same_from_push (digits n (w / 256)) (digits n (w' / 256)) (w % 256) (w' % 256) e in
@@ -91,15 +91,15 @@ same_words x y e =
       fourth = digits_inj (min 8 (x.len - 24)) x.fourth y.fourth x.fourth_fits (subst P4 (sym l) y.fourth_fits) w.3;
     }
 
-pub same_bytes : (x y : Name) → Same x y → bytes_of x ≡ bytes_of y
+same_bytes : (x y : Name) → Same x y → bytes_of x ≡ bytes_of y
 same_bytes x y s =
     let e1 = s.len in let e2 = s.first in let e3 = s.second in let e4 = s.third in let e5 = s.fourth in cc
 
 -- what a comparison of the words tells of the bytes
-pub same_told : (x y : Name) → Same x y → true ≡ bytes_eq (bytes_of x) (bytes_of y)
+same_told : (x y : Name) → Same x y → true ≡ bytes_eq (bytes_of x) (bytes_of y)
 same_told x y s = sym ((bytes_eq-Decides (bytes_of x) (bytes_of y)).1 (same_bytes x y s))
 
-pub other_told : (x y : Name) → (Same x y → ⊥) → false ≡ bytes_eq (bytes_of x) (bytes_of y)
+other_told : (x y : Name) → (Same x y → ⊥) → false ≡ bytes_eq (bytes_of x) (bytes_of y)
 other_told x y d = go (bytes_eq (bytes_of x) (bytes_of y)) refl
   where
     go : (b : Bool) → b ≡ bytes_eq (bytes_of x) (bytes_of y) → false ≡ bytes_eq (bytes_of x) (bytes_of y)

@@ -1,5 +1,5 @@
 -- The rule nodes of a text form a rule.
-use Rattle.std.proofs.Common.{◌≡◌, ℕ, zero, suc, ◌<◌, List, [], ◌∷◌, length, get_or, Some, sym, ap, subst, arith}
+use Rattle.std.proofs.Common.{◌≡◌, ℕ, ◌<◌, List, [], length, get_or, Some, sym, ap, subst, arith}
 use Rattle.std.specs.List.{slice_get}
 use Rattle.std.proofs.lemmas.List.{length-map}
 use Rattle.rules.specs.declared.node.Edge.TheVariants.{Child}
@@ -11,13 +11,9 @@ use Rattle.rules.specs.Rule.{is_child, Rooted, Ordered}
 use Rattle.rules.specs.Expression.{plain, rule_nodes_of}
 use Rattle.rules.specs.Texts.{TextGives, gives}
 use Rattle.rules.proofs.Order.{gives_ordered}
-use Rattle.rules.proofs.Selects.{slice_get_within, step_node}
+use Rattle.std.proofs.lemmas.Option.{slice_get_within, get_or_from_slice_get}
+use Rattle.rules.proofs.Selects.{step_node}
 use Rattle.rules.proofs.Listed.{some_at, rule_at}
-
-pub slice_get_get_or : {X : Type 0} (xs : List X) (k : ℕ) (y d : X) → slice_get xs k ≡ Some y → get_or xs k d ≡ y
-slice_get_get_or [] k y d h = let z : ◌≡◌ {A = ℕ} 0 1 = cc in absurd (omega arith)
-slice_get_get_or (x ∷ xs) zero y d h = cc
-slice_get_get_or (x ∷ xs) (suc k) y d h = slice_get_get_or xs k y d h
 
 step_first : {ns : List ParsedNode} {ts rest : List Token} → Step 0 Child [] ts ns rest → (t : Token) × (slice_get ns 0 ≡ Some (node 0 Child t))
 step_first (step {t = t} test ps) = (t, step_node 0 Child t [] ps)
@@ -41,5 +37,5 @@ pub given_ordered : {bs : List ℕ} {ns : List ParsedNode} → TextGives bs ns �
 given_ordered {bs} {ns} g x pos l =
     let inside : x < length ns = omega (arith, length-map ns plain) in
     let r = some_at ns x inside in
-    let low : r.0.parent < x = subst (λ (n : ParsedNode). n.parent < x) (slice_get_get_or ns x r.0 r.0 r.1) (gives_ordered bs ns g x r.0 pos inside) in
+    let low : r.0.parent < x = subst (λ (n : ParsedNode). n.parent < x) (get_or_from_slice_get ns x r.0 r.0 r.1) (gives_ordered bs ns g x r.0 pos inside) in
     subst (λ (n : RuleNode). n.parent < x) (sym (rule_at ns x r.0 r.1)) low

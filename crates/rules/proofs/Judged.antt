@@ -85,7 +85,7 @@ gain (more d n k outer ns) t u e =
     gain_test t.kind _ _ u (record { tests = length_push ns _; brackets = omega arith }) (record { tests = length_push ns _; brackets = omega arith }) e
 gain (ended ns) t u e = no_move [] u e
 
-pub record Tally (before : List Token) (s : State) : Type 0 where
+record Tally (before : List Token) (s : State) : Type 0 where
   pub tests : count is_test before ≡ length (nodes s)
   pub brackets : count is_open before ≡ depth s + count is_close before
 
@@ -219,7 +219,7 @@ Right ts (accepts ns) = TokensGive ts ns
 Right ts (refuses k p) = TokensRefused ts k p
 Right ts unfinished = Unit {0}
 
-pub record Sofar (before : List Token) (s : State) : Type 0 where
+record Sofar (before : List Token) (s : State) : Type 0 where
   pub moved : moves before (to start) ≡ to s
   pub clear : Clear before
   pub tally : Tally before s

@@ -2,6 +2,7 @@
 use Rattle.std.proofs.Common.{◌≡◌, ℕ, zero, suc, ◌<◌, Bool, true, false, ◌⊎◌, ◌↔◌, List, [], ◌∷◌, length, get_or, Some, None, Option, sym, refl, ap, ◌∙◌, subst, inl, inr, ⊎_elim, arith}
 use Rattle.std.proofs.lemmas.List.{length-map}
 use Rattle.std.specs.List.{slice_get}
+use Rattle.std.proofs.lemmas.Option.{slice_get_within}
 use Rattle.rules.specs.declared.syntax.Kind.TheVariants.{Star, Name}
 use Rattle.rules.specs.declared.syntax.Token.{Token}
 use Rattle.rules.specs.declared.node.Edge.{Edge}
@@ -19,7 +20,7 @@ use Rattle.rules.specs.Texts.{TextGives, gives}
 use Rattle.rules.proofs.Machine.{complete}
 use Rattle.rules.proofs.Words.{unique}
 use Rattle.rules.specs.ReadText.{NamesIn, behind, named, unnamed}
-use Rattle.rules.proofs.Selects.{slice_get_within, below_then, below_from, below_last, inner_below, outer_below, MeetsNode, Mapping, selected_maps, mapping_selected}
+use Rattle.rules.proofs.Selects.{below_then, below_from, below_last, inner_below, outer_below, MeetsNode, Mapping, selected_maps, mapping_selected}
 
 pub some_at : {X : Type 0} (xs : List X) (k : ℕ) → k < length xs → (y : X) × (slice_get xs k ≡ Some y)
 some_at [] k h = absurd (omega arith)

@@ -126,7 +126,7 @@ sane_moves (t ∷ ts) s u h e = go (move s t) refl e (λ v h e. sane_moves ts v 
     go stuck q e ih = no_move ts u e
     go (to v) q e ih = ih v (sane_move s t v h q) e
 
-pub text_ordered : {ts : List Token} {ns : List ParsedNode} → Text ts ns → Ordered ns
+text_ordered : {ts : List Token} {ns : List ParsedNode} → Text ts ns → Ordered ns
 text_ordered {ts} {ns} t = sane_moves ts start (ended ns) tt (complete t)
 
 pub gives_ordered : (bs : List ℕ) (ns : List ParsedNode) → TextGives bs ns → Ordered ns

@@ -14,7 +14,7 @@ use Rattle.rules.specs.declared.node.RuleNode.{RuleNode}
 use Rattle.rules.specs.declared.records.UnknownEdge.{UnknownEdge}
 use Rattle.rules.specs.Limits.{node_limit}
 use Rattle.rules.specs.Rule.{blank, is_child, Rooted, Ordered}
-use Rattle.rules.proofs.Selects.{slice_get_within}
+use Rattle.std.proofs.lemmas.Option.{slice_get_within}
 use Rattle.labels.specs.Exact.{Sole}
 use Rattle.rules.proofs.Sole.{sole}
 use Rattle.rules.specs.Records.{EdgeByte, child, descendant, EdgeFrom, AnyByte, named, any, Hangs, root, under, Writes, writes, RecordWrites, RecordAt, Whole, Recorded, RecordReason, size, bad}
@@ -40,7 +40,7 @@ hangs_under l root = absurd (omega arith)
 hangs_under l (under h) = h
 
 -- where the root hangs
-pub hangs_root : {p : ℕ} {edge : Edge} → Hangs 0 p edge → (p ≡ 0) × (edge ≡ Child)
+hangs_root : {p : ℕ} {edge : Edge} → Hangs 0 p edge → (p ≡ 0) × (edge ≡ Child)
 hangs_root root = (refl, refl)
 hangs_root (under h) = absurd (omega arith)
 
@@ -108,7 +108,7 @@ pub unset_sole : {bs : List ℕ} {x : ℕ × Option ℕ} → RecordReason bs x �
 unset_sole r = sole (λ y z. reason_same) (λ y z q g. recorded_or_not g q) r
 
 -- nothing is written without a place to hang
-pub unwritten_place : {i p e a : ℕ} {edge : Edge} → EdgeByte e edge → (Hangs i p edge → ⊥) → (n : RuleNode) → Writes i p e a n → ⊥
+unwritten_place : {i p e a : ℕ} {edge : Edge} → EdgeByte e edge → (Hangs i p edge → ⊥) → (n : RuleNode) → Writes i p e a n → ⊥
 unwritten_place {i} {p} {edge = edge} b h n w = h (subst (λ (x : Edge). Hangs i p x) (edge_same (parts w).edge b) (parts w).hangs)
 
 -- the edge that a byte was turned into
@@ -155,10 +155,10 @@ module _ (bs : List ℕ) (chunks : List (List ℕ)) (are : chunks ≡ first_chun
     (ap (λ (c : List (List ℕ)). get_or (get_or c i []) 2 0) are ∙ byte_at bs _ i 2 h (omega arith)) j,
   )
 
-  pub record_at : RecordWrites i (get_or chunks i []) n → RecordAt bs i n
+  record_at : RecordWrites i (get_or chunks i []) n → RecordAt bs i n
   record_at w = subst (λ (t : ℕ × ℕ × ℕ). Writes i t.0 t.1 t.2 n) bytes_are w
 
-  pub at_record : RecordAt bs i n → RecordWrites i (get_or chunks i []) n
+  at_record : RecordAt bs i n → RecordWrites i (get_or chunks i []) n
   at_record w = subst (λ (t : ℕ × ℕ × ℕ). Writes i t.0 t.1 t.2 n) (sym bytes_are) w
 
 -- the rule nodes of the first k places are those of the records

@@ -2,6 +2,7 @@
 use Rattle.std.proofs.Common.{◌≡◌, ℕ, zero, suc, ◌<◌, ◌≤◌, cond, eqb, ◌⊎◌, List, [], ◌∷◌, ◌++◌, length, Some, None, sym, refl, ap, ◌∙◌, subst, subst₂, inl, inr, ⊎_elim, append_assoc, append-nil, arith, length-append}
 use Rattle.std.proofs.lemmas.Bool.{cond-true, cond-false, eq-eqb, ne_eqb}
 use Rattle.std.specs.List.{slice_get}
+use Rattle.std.proofs.lemmas.Option.{slice_get_within}
 use Rattle.rules.specs.declared.syntax.Kind.TheVariants.{Star, Name}
 use Rattle.rules.specs.declared.syntax.Token.{Token}
 use Rattle.rules.specs.declared.node.Edge.{Edge}
@@ -24,13 +25,8 @@ slice_get_longer [] ys k y h = let z : ◌≡◌ {A = ℕ} 0 1 = cc in absurd (o
 slice_get_longer (x ∷ xs) ys zero y h = h
 slice_get_longer (x ∷ xs) ys (suc k) y h = slice_get_longer xs ys k y h
 
-pub slice_get_within : {X : Type 0} (xs : List X) (k : ℕ) (y : X) → slice_get xs k ≡ Some y → k < length xs
-slice_get_within [] k y h = let z : ◌≡◌ {A = ℕ} 0 1 = cc in absurd (omega arith)
-slice_get_within (x ∷ xs) zero y h = omega arith
-slice_get_within (x ∷ xs) (suc k) y h = let l = slice_get_within xs k y h in omega arith
-
 -- in a list with y at its end
-pub slice_get_cases : {X : Type 0} (xs : List X) (y z : X) (k : ℕ) → slice_get (xs ++ (y ∷ [])) k ≡ Some z
+slice_get_cases : {X : Type 0} (xs : List X) (y z : X) (k : ℕ) → slice_get (xs ++ (y ∷ [])) k ≡ Some z
     → ((k < length xs) × (slice_get xs k ≡ Some z)) ⊎ ((k ≡ length xs) × (y ≡ z))
 slice_get_cases [] y z zero h = inr (refl, cc)
 slice_get_cases [] y z (suc k) h = let q : ◌≡◌ {A = ℕ} 0 1 = cc in absurd (omega arith)
@@ -44,7 +40,7 @@ pub record More (ns ms : List ParsedNode) : Type 0 where
   pub extra : List ParsedNode
   pub is : ms ≡ ns ++ extra
 
-pub more_none : (ns : List ParsedNode) → More ns ns
+more_none : (ns : List ParsedNode) → More ns ns
 more_none ns = record { extra = []; is = sym (append-nil ns) }
 
 more_more : {xs ys zs : List ParsedNode} → More xs ys → More ys zs → More xs zs

@@ -1,5 +1,5 @@
 -- One name after another. Assumes nothing.
-use Rattle.std.proofs.Common.{◌≡◌, ℕ, zero, suc, ◌+◌, ◌-◌, ◌<◌, ◌≤◌, List, [], ◌∷◌, ◌++◌, length, get_or, take, drop, set, Result, Ok, Err, sym, ap, ◌∙◌, subst, arith}
+use Rattle.std.proofs.Common.{◌≡◌, ℕ, zero, suc, ◌+◌, ◌<◌, ◌≤◌, List, [], ◌∷◌, ◌++◌, length, get_or, take, set, Result, Ok, Err, sym, ap, ◌∙◌, subst, arith}
 use Rattle.std.specs.List.{AllByRecursion}
 use Rattle.std.proofs.lemmas.List.{take_more, length-take-le}
 use Rattle.rules.specs.declared.syntax.Kind.TheVariants.{Name, DoubleSlash}
@@ -24,14 +24,14 @@ every_at P (x ∷ xs) zero d h l = h.0
 every_at P (x ∷ xs) (suc i) d h l = every_at P xs i d h.1 (omega arith)
 
 module _ {N : Type 0} (spelled : N → List ℕ) (bs : List ℕ) where
-  pub name_more : (ns : List ParsedNode) (n : ParsedNode) (xs ys : List N) (y : N) → length ns < length xs → n.test.kind ≡ Name → spelled y ≡ token_bytes bs n.test
+  name_more : (ns : List ParsedNode) (n : ParsedNode) (xs ys : List N) (y : N) → length ns < length xs → n.test.kind ≡ Name → spelled y ≡ token_bytes bs n.test
       → NamesIn spelled bs ns xs ys → NamesIn spelled bs (ns ++ (n ∷ [])) xs (set ys (length ns) y)
   name_more [] n [] ys y h q e d = absurd (omega arith)
   name_more [] n (x ∷ xs) ys y h q e behind = named q e behind
   name_more (m ∷ ns) n xs ys y h q e (named r f d) = named r f (name_more ns n _ _ y (omega arith) q e d)
   name_more (m ∷ ns) n xs ys y h q e (unnamed r d) = unnamed r (name_more ns n _ _ y (omega arith) q e d)
 
-  pub skip_more : (ns : List ParsedNode) (n : ParsedNode) (xs ys : List N) → length ns < length xs → (n.test.kind ≡ Name → ⊥)
+  skip_more : (ns : List ParsedNode) (n : ParsedNode) (xs ys : List N) → length ns < length xs → (n.test.kind ≡ Name → ⊥)
       → NamesIn spelled bs ns xs ys → NamesIn spelled bs (ns ++ (n ∷ [])) xs ys
   skip_more [] n [] ys h q d = absurd (omega arith)
   skip_more [] n (x ∷ xs) ys h q behind = unnamed q behind

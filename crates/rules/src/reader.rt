@@ -114,7 +114,9 @@ impl<'a> Reader<'a> {
     // Reads a path in a predicate of the step `parent`, where so many brackets may still be opened.
     #[cycle(path_predicate_step)]
     fn path(&mut self, parent: usize, room: usize) -> Result<(), TextRefusal>
-        ensures { MatchResult result (λ _. PathRead self.old self.new parent room) (PathFails self.old parent room) }
+        ensures { MatchResult result
+            (λ _. PathRead self.old self.new parent room)
+            (PathFails self.old parent room) }
     {
         let edge = self.begin()?;
         let mut last = self.step(parent, edge, room)?;
@@ -127,7 +129,9 @@ impl<'a> Reader<'a> {
     // Reads a step with its predicates, and answers its number.
     #[cycle(path_predicate_step)]
     fn step(&mut self, parent: usize, edge: Edge, room: usize) -> Result<usize, TextRefusal>
-        ensures { MatchResult result (StepRead self.old self.new parent edge room) (StepFails self.old parent edge room) }
+        ensures { MatchResult result
+            (StepRead self.old self.new parent edge room)
+            (StepFails self.old parent edge room) }
     {
         let number = self.note(parent, edge)?;
         while self.peek().kind == Kind::Open {
@@ -140,7 +144,9 @@ impl<'a> Reader<'a> {
     #[cycle(path_predicate_step)]
     fn predicate(&mut self, parent: usize, room: usize) -> Result<(), TextRefusal>
         requires { front (left self.old) ≡ Open }
-        ensures { MatchResult result (λ _. PredicateRead self.old self.new parent room) (PredicateFails self.old parent room) }
+        ensures { MatchResult result
+            (λ _. PredicateRead self.old self.new parent room)
+            (PredicateFails self.old parent room) }
     {
         if room == 0 {
             return Err(TextRefusal::DeepBracket(self.peek().place));

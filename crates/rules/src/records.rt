@@ -86,7 +86,9 @@ fn rule_from(bytes: &[u8]) -> Result<Rule, RecordRefusal>
 impl Rule {
     // Sets the rule from records of three bytes, in the order of their numbers.
     pub fn set_records(&mut self, bytes: &[u8]) -> Result<(), RecordRefusal>
-        ensures { MatchResult result (λ _. SetFrom bytes.now self.new) (λ f. Unset bytes.now f self.old self.new) }
+        ensures { MatchResult result
+            (λ _. SetFrom bytes.now self.new)
+            (λ f. Unset bytes.now f self.old self.new) }
     {
         *self = rule_from(bytes)?;
         Ok(())

@@ -66,7 +66,9 @@ fn write_names<N: NameLabel>(text: &[u8], nodes: &[ParsedNode], names: &mut [N])
 
 // The rule of a rule text; the names of its named rule nodes go into `names` at their numbers.
 fn read<N: NameLabel>(text: &[u8], names: &mut [N]) -> Result<Rule, TextRefusal>
-    ensures { MatchResult result (λ rule. ReadInto N.eq N.spelled N.alike text.now rule names.old names.new) (λ f. OnlyRefused text.now (length names.old) f × (names.new ≡ names.old)) }
+    ensures { MatchResult result
+        (λ rule. ReadInto N.eq N.spelled N.alike text.now rule names.old names.new)
+        (λ f. OnlyRefused text.now (length names.old) f × (names.new ≡ names.old)) }
 {
     if names.len() < RULE_NODES {
         return Err(TextRefusal::ShortList);
@@ -85,7 +87,9 @@ impl Rule {
         text: &[u8],
         names: &mut [N],
     ) -> Result<(), TextRefusal>
-        ensures { MatchResult result (λ _. ReadInto N.eq N.spelled N.alike text.now self.new names.old names.new) (λ f. Unread text.now f self.old self.new names.old names.new) }
+        ensures { MatchResult result
+            (λ _. ReadInto N.eq N.spelled N.alike text.now self.new names.old names.new)
+            (λ f. Unread text.now f self.old self.new names.old names.new) }
     {
         *self = read(text, names)?;
         Ok(())

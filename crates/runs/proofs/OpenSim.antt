@@ -5,7 +5,8 @@ use Rattle.std.proofs.lemmas.List.{length_push}
 use Rattle.std.proofs.lemmas.Bool.{cases_lt}
 use Rattle.rules.specs.declared.node.RuleNode.{RuleNode}
 use Rattle.rules.specs.Embedding.{ParentsFirst}
-use Rattle.rules.proofs.Selects.{slice_get_within, nth_last, slice_get_longer}
+use Rattle.std.proofs.lemmas.Option.{slice_get_within}
+use Rattle.rules.proofs.Selects.{nth_last, slice_get_longer}
 use Rattle.runs.specs.declared.levels.Level.{Level}
 use Rattle.runs.specs.declared.refusal.Refusal.{Refusal}
 use Rattle.runs.specs.declared.call.Call.TheVariants as call

@@ -4,7 +4,7 @@ use mathlib.Core.HLevel.{is_prop→PathP}
 use mathlib.Core.Logic.{∥∥₁_prop}
 use Rattle.rules.specs.declared.node.RuleNode.{RuleNode}
 use Rattle.rules.specs.RuleNodes.{rule_nodes}
-use Rattle.rules.proofs.Selects.{slice_get_within}
+use Rattle.std.proofs.lemmas.Option.{slice_get_within}
 use Rattle.runs.specs.declared.refusal.Refusal.{Refusal}
 use Rattle.runs.specs.declared.run.Run.{Run}
 use Rattle.runs.specs.Words.{Kept, no_words}

@@ -1,8 +1,7 @@
 use Rattle.std.proofs.Common.{◌≡◌, ◌+◌, get_or, take, sym, refl, ◌∙◌, subst, rules}
 use Rattle.rules.specs.declared.syntax.Kind.TheVariants.{Name}
-use Rattle.rules.specs.Parsing.{Lies}
 use Rattle.rules.specs.ReadText.{NamesIn, behind}
-use Rattle.rules.proofs.Written.{blank, every_at, made_label, name_turn, skip_turn}
+use Rattle.rules.proofs.Written.{blank, made_label, name_turn, skip_turn}
 use Rattle.rules.proofs.text.write_names.Goals as goal
 use Rattle.rules.proofs.text.write_names.Goals.{then-eq, else-eq}
 

@@ -3,8 +3,7 @@ use Rattle.std.proofs.lemmas.List.{get_or_read}
 use Rattle.std.proofs.lemmas.Bool.{false≢true}
 use Rattle.rules.specs.RuleNodes.{rule_nodes}
 use Rattle.rules.proofs.RuleLaws.{few_nodes}
-use Rattle.rules.proofs.Formed.{slice_get_get_or}
-use Rattle.rules.proofs.Selects.{slice_get_within}
+use Rattle.std.proofs.lemmas.Option.{slice_get_within, get_or_from_slice_get}
 use Rattle.runs.proofs.SetLaws.{Grown, grown_yes, grown_no}
 use Rattle.runs.proofs.NthLaws.{get_or_slice_get}
 use Rattle.runs.proofs.search.nodes_met.Goals as goal
@@ -54,6 +53,6 @@ returns g c x =
           (λ k.
           let listed = slice_get_within ls x k.0 k.1 in
           let within : x < length (rule_nodes c.args.rule.now) = h.0 in
-          inr (omega arith, (omega arith, ap (g.L.PartialEq.eq l) (slice_get_get_or ls x k.0 l k.1) ∙ k.2)))
+          inr (omega arith, (omega arith, ap (g.L.PartialEq.eq l) (get_or_from_slice_get ls x k.0 l k.1) ∙ k.2)))
           h.1),
     )
