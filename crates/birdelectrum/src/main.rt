@@ -1,4 +1,4 @@
-// Reports the folders of a listing at which a rule occurs.
+//! Reports the folders of a listing at which a rule occurs.
 #![tactic(auto)]
 
 mod refusal;

@@ -1,4 +1,4 @@
-// Why an input is refused.
+//! Why an input is refused.
 ghost use Rattle.std.specs.Prelude.{◌≡◌, Some};
 ghost use Rattle.birdelectrum.specs.Refusals.{Ends, number, place, refusal_text};
 ghost use Rattle.birdelectrum.specs.declared.refusal.Refusal.{Refusal};
@@ -9,10 +9,10 @@ use std::error::Error;
 use std::fmt;
 use xml::fault::XmlFault;
 
-// The bytes of an input, at most. One more is read, to see whether there are more.
+/// The bytes of an input, at most. One more is read, to see whether there are more.
 pub const INPUT: usize = 65_536;
 
-// Why the events end before the listing is done: the listing's fault, or the run refuses one.
+/// Why the events end before the listing is done: the listing's fault, or the run refuses one.
 #[derive(Clone, Copy, PartialEq, Eq, Debug)]
 pub enum Stop {
     Fault(XmlFault),
@@ -35,8 +35,8 @@ impl From<runs::refusal::Refusal> for Stop {
     }
 }
 
-// Why an input is refused: it is too long, its rule text or its listing is at fault, or the run refuses an event; `length` is that of
-// the listing. A run refuses no event of a listing that fits the input.
+/// Why an input is refused: it is too long, its rule text or its listing is at fault, or the run refuses an event; `length` is that of
+/// the listing. A run refuses no event of a listing that fits the input.
 #[derive(Clone, Copy, PartialEq, Eq, Debug)]
 pub enum Refusal {
     Input,
@@ -57,7 +57,7 @@ impl From<TextRefusal> for Refusal {
 }
 
 impl Refusal {
-    // Why a listing of so many bytes ended.
+    /// Why a listing of so many bytes ended.
     pub fn of_listing(stop: Stop, length: usize) -> Refusal
         ensures { Ends stop length result }
     {
@@ -78,7 +78,7 @@ impl Refusal {
         }
     }
 
-    // The place in the input, the rule text or the listing; of a run's refusal the end of the listing.
+    /// The place in the input, the rule text or the listing; of a run's refusal the end of the listing.
     pub fn place(&self) -> usize
         ensures { result ≡ place self.now }
     {

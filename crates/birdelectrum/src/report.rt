@@ -1,4 +1,4 @@
-// What the program says of an input.
+//! What the program says of an input.
 ghost use Rattle.std.specs.Prelude.{◌≡◌, ◌≤◌, length, MatchResult};
 ghost use Rattle.sources.specs.Events.{rest};
 ghost use Rattle.xml.specs.Means.{xml_events};
@@ -13,8 +13,8 @@ use sources::event::Event;
 use sources::source::Source;
 use xml::reader::Xml;
 
-// How many numbers are reported, and whether the input is refused. A count, and not the filled part of the caller's list: the list stays
-// lent no longer than the call.
+/// How many numbers are reported, and whether the input is refused. A count, and not the filled part of the caller's list: the list stays
+/// lent no longer than the call.
 #[derive(Clone, Copy, PartialEq, Eq, Debug)]
 pub struct Report {
     pub reported: usize,
@@ -102,7 +102,7 @@ fn feed(selection: &Selection, numbers: &mut [u32]) -> (usize, Result<(), Stop>)
     }
 }
 
-// The numbers to report stand at the front of the list.
+/// The numbers to report stand at the front of the list.
 #[tactic(auto, using(crate::proofs::ReportLaws::bad_reported))]
 pub fn report_on(input: &[u8], numbers: &mut [u32]) -> Report
     ensures fits { result.reported ≤ length numbers.old }

@@ -1,4 +1,4 @@
-// Whole inputs.
+//! Whole inputs.
 use crate::report::{Report, report_on};
 use std::process::Abort;
 

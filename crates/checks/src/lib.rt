@@ -1,4 +1,4 @@
-// Worked examples and the limits, as tests.
+//! Worked examples and the limits, as tests.
 #![tactic(auto)]
 
 #[cfg(test)]

@@ -1,4 +1,4 @@
-// Listings and how they end.
+//! Listings and how they end.
 use labels::name::Name;
 use sources::drain::drained;
 use sources::event::Event;

@@ -1,4 +1,4 @@
-// Names at their limits.
+//! Names at their limits.
 use labels::code::FolderCode;
 use labels::kind::NameLabel;
 use labels::name::{Name, NameRefusal};

@@ -1,4 +1,4 @@
-// Rules from records, and their refusals at the limits.
+//! Rules from records, and their refusals at the limits.
 use rules::node::{Edge, RuleNode};
 use rules::records::UnknownEdge;
 use rules::refusal::RecordRefusal;

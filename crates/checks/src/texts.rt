@@ -1,4 +1,4 @@
-// Examples of rule texts, and every refusal at its limit.
+//! Examples of rule texts, and every refusal at its limit.
 use labels::name::{Name, NameRefusal};
 use rules::refusal::TextRefusal;
 use rules::rule::Rule;

@@ -1,4 +1,4 @@
-// Folder tables, and a run with more selected nodes than can wait.
+//! Folder tables, and a run with more selected nodes than can wait.
 use crate::ended::{EVENTS, show_ended};
 use labels::code::FolderCode;
 use rules::rule::Rule;

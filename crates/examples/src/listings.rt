@@ -1,4 +1,4 @@
-// XML listings.
+//! XML listings.
 use crate::ended::{EVENTS, show_ended};
 use sources::drain::drained;
 use std::io;

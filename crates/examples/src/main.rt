@@ -1,4 +1,4 @@
-// Runs worked examples over the library, and prints what comes of each.
+//! Runs worked examples over the library, and prints what comes of each.
 #![tactic(auto)]
 
 mod ended;

@@ -1,4 +1,4 @@
-// Rules from texts and from records.
+//! Rules from texts and from records.
 use labels::name::Name;
 use rules::rule::{RULE_NODES, Rule};
 use std::io;

@@ -1,4 +1,4 @@
-// The tokens of a rule text. Text and place go in, since tokens and refusals tell places: a cursor over both would be no plainer.
+//! The tokens of a rule text. Text and place go in, since tokens and refusals tell places: a cursor over both would be no plainer.
 ghost use Rattle.std.specs.Prelude.{◌≡◌, ◌<◌, ◌≤◌, false, length, MatchOption, slice_index};
 ghost use Rattle.labels.specs.Spelling.{white, starts, byte, Named};
 ghost use Rattle.rules.specs.Machine.{Next};
@@ -37,7 +37,7 @@ fn token_at(text: &[u8], place: usize) -> Token
     Token { kind, place, len }
 }
 
-// The first token from `at` on; past the text it is the end.
+/// The first token from `at` on; past the text it is the end.
 #[tactic(auto, using(crate::proofs::Lexes::white_behind))]
 pub fn next_token(text: &[u8], at: usize) -> Token
     ensures { Next text.now at result }

@@ -157,7 +157,7 @@ impl<'a> Reader<'a> {
     }
 }
 
-// The rule nodes of a rule text, in order, with their tests.
+/// The rule nodes of a rule text, in order, with their tests.
 #[tactic(auto, using(crate::proofs::Going::empty_fails, crate::proofs::Going::long_fails, crate::proofs::Going::start_fails, crate::proofs::Going::step_fails, crate::proofs::Going::stepped, crate::proofs::Going::end_fails))]
 pub fn parse(text: &[u8]) -> Result<ArrayVec<ParsedNode, RULE_NODES>, TextRefusal>
     ensures { MatchResult result (λ p. Parses text.now p.items) (ParseFails text.now) }

@@ -1,4 +1,4 @@
-// Rules from records.
+//! Rules from records.
 ghost use Rattle.std.specs.Prelude.{Bool, Decides, MatchOption, MatchResult};
 ghost use Rattle.rules.specs.declared.node.RuleNode.{RuleNode};
 ghost use Rattle.rules.specs.Records.{EdgeFrom, AnyByte, Hangs, RecordWrites, SetFrom, Unsettable, Unset};
@@ -10,7 +10,7 @@ use crate::rule::{RULE_NODES, Rule};
 // The bytes of a record: parent, edge, any.
 const RECORD: usize = 3;
 
-// A byte that means no edge.
+/// A byte that means no edge.
 #[derive(Clone, Copy, PartialEq, Eq, Debug)]
 pub struct UnknownEdge(pub u8);
 
@@ -84,7 +84,7 @@ fn rule_from(bytes: &[u8]) -> Result<Rule, RecordRefusal>
 }
 
 impl Rule {
-    // Sets the rule from records of three bytes, in the order of their numbers.
+    /// Sets the rule from records of three bytes, in the order of their numbers.
     pub fn set_records(&mut self, bytes: &[u8]) -> Result<(), RecordRefusal>
         ensures { MatchResult result
             (λ _. SetFrom bytes.now self.new)

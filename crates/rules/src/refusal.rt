@@ -1,4 +1,4 @@
-// Why a rule is refused.
+//! Why a rule is refused.
 ghost use Rattle.std.specs.Prelude.{◌≡◌, Some};
 ghost use Rattle.rules.specs.Refusals.{number, place, printed_text, record_number, bad_record, printed_record};
 
@@ -54,7 +54,7 @@ impl fmt::Display for TextRefusal {
 
 impl Error for TextRefusal {}
 
-// Why records are refused: their size, or the first bad record by its number.
+/// Why records are refused: their size, or the first bad record by its number.
 #[derive(Clone, Copy, PartialEq, Eq, Debug)]
 pub enum RecordRefusal {
     Size,

@@ -81,7 +81,7 @@ fn read<N: NameLabel>(text: &[u8], names: &mut [N]) -> Result<Rule, TextRefusal>
 }
 
 impl Rule {
-    // Reads a rule text into the rule, and the names of its named rule nodes into `names` at their numbers.
+    /// Reads a rule text into the rule, and the names of its named rule nodes into `names` at their numbers.
     pub fn read_text<N: NameLabel>(
         &mut self,
         text: &[u8],

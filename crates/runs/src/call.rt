@@ -1,7 +1,7 @@
-// The calls of a run and their answers, as values.
+//! The calls of a run and their answers, as values.
 use crate::refusal::Refusal;
 
-// A call; a taking is given by the length of its list.
+/// A call; a taking is given by the length of its list.
 #[derive(Clone, Copy)]
 pub enum Call<L> {
     Open(L),
@@ -10,8 +10,8 @@ pub enum Call<L> {
     Take(usize),
 }
 
-// What a call answers: the new node's number, whether the closed node is selected, or how many numbers were moved. A refusal is one of
-// the answers, and no `Err` round them, since the reference model tells one answer for each call.
+/// What a call answers: the new node's number, whether the closed node is selected, or how many numbers were moved. A refusal is one of
+/// the answers, and no `Err` round them, since the reference model tells one answer for each call.
 #[derive(Clone, Copy, PartialEq, Eq, Debug)]
 pub enum Answer {
     Opened(u32),

@@ -1,4 +1,4 @@
-// The calls of a run.
+//! The calls of a run.
 ghost use Rattle.std.specs.Prelude.{◌≡◌, length};
 ghost use Rattle.rules.specs.Embedding.{Meets};
 ghost use Rattle.rules.specs.RuleNodes.{rule_nodes};
@@ -14,7 +14,7 @@ use labels::kind::LabelKind;
 use rules::rule::Rule;
 
 impl<'r> Run<'r> {
-    // A run of the rule with nothing open.
+    /// A run of the rule with nothing open.
     pub fn new(rule: &'r Rule) -> Run<'r>
         ensures rule { result.rule.now ≡ rule.now }
         ensures stands { StandsFor result empty }
@@ -25,8 +25,8 @@ impl<'r> Run<'r> {
         }
     }
 
-    // Opens a node under the innermost open one, and gives its number. `labels` has the labels of the tests by the numbers
-    // of the rule nodes.
+    /// Opens a node under the innermost open one, and gives its number. `labels` has the labels of the tests by the numbers
+    /// of the rule nodes.
     pub fn open<L: LabelKind>(&mut self, labels: &[L], label: &L) -> Result<u32, Refusal>
         ensures step { Opening (Meets L.eq (rule_nodes self.old.rule.now) labels.now label.now) self.old result self.new }
         ensures refused { Unaltered self.old result self.new }
@@ -35,7 +35,7 @@ impl<'r> Run<'r> {
         self.state.open(met)
     }
 
-    // Ends the innermost open node, and says whether it is selected.
+    /// Ends the innermost open node, and says whether it is selected.
     pub fn close(&mut self) -> Result<bool, Refusal>
         ensures step { Steps self.old Close (closed result) self.new }
         ensures refused { Unaltered self.old result self.new }
@@ -43,28 +43,28 @@ impl<'r> Run<'r> {
         self.state.close(self.rule)
     }
 
-    // Moves the oldest waiting numbers to the front of `out`, as many as wait and fit, and says how many.
+    /// Moves the oldest waiting numbers to the front of `out`, as many as wait and fit, and says how many.
     pub fn take(&mut self, out: &mut [u32]) -> usize
         ensures { Hands self.old out.old result out.new self.new }
     {
         self.state.take(out)
     }
 
-    // How many nodes are open.
+    /// How many nodes are open.
     pub fn open_count(&self) -> usize
         ensures { Tells self.now (λ m. length m.path) result }
     {
         self.state.depth
     }
 
-    // How many openings were accepted.
+    /// How many openings were accepted.
     pub fn openings(&self) -> u32
         ensures { Tells self.now (λ m. length m.nodes) result }
     {
         self.state.opened
     }
 
-    // How many numbers wait.
+    /// How many numbers wait.
     pub fn waiting_count(&self) -> usize
         ensures { Tells self.now (λ m. length m.waiting) result }
     {

@@ -1,4 +1,4 @@
-// The step of a closing that looks at the edges of a rule.
+//! The step of a closing that looks at the edges of a rule.
 ghost use Rattle.std.specs.Prelude.{ℕ, ◌↔◌};
 ghost use Rattle.rules.specs.RuleNodes.{rule_nodes};
 ghost use Rattle.runs.specs.Bits.{Has};
@@ -8,7 +8,7 @@ use crate::node_set::NodeSet;
 use rules::node::Edge;
 use rules::rule::Rule;
 
-// The rule nodes whose child edges all lead to rule nodes in `child` and whose descendant edges to rule nodes in `below`.
+/// The rule nodes whose child edges all lead to rule nodes in `child` and whose descendant edges to rule nodes in `below`.
 pub fn edges_met(rule: &Rule, child: NodeSet, below: NodeSet) -> NodeSet
     ensures { (x : ℕ) → Has result x ↔ EdgesMet (rule_nodes rule.now) child below x }
 {

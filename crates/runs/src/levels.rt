@@ -1,17 +1,17 @@
-// The state of a run.
+//! The state of a run.
 ghost use Rattle.std.specs.Prelude.{◌<◌, ◌≤◌};
 
 use crate::node_set::NodeSet;
 
-// The open nodes, the waiting numbers and the accepted openings that a run has at most.
+/// The open nodes, the waiting numbers and the accepted openings that a run has at most.
 pub const DEPTH: usize = 128;
 
 pub const WAITING: usize = 64;
 
 pub const OPENINGS: u32 = 1_000_000;
 
-// An open node: the rule nodes whose test it meets, those found at a child of it so far and those found at a proper
-// descendant of it so far, and its number.
+/// An open node: the rule nodes whose test it meets, those found at a child of it so far and those found at a proper
+/// descendant of it so far, and its number.
 #[derive(Clone, Copy)]
 pub struct Level {
     pub met: NodeSet,
@@ -20,8 +20,8 @@ pub struct Level {
     pub number: u32,
 }
 
-// The open nodes, outermost first, and the numbers that wait, in a ring with the oldest at `head`. Plain arrays with counts, as
-// the project lays down for a run's state.
+/// The open nodes, outermost first, and the numbers that wait, in a ring with the oldest at `head`. Plain arrays with counts:
+/// the state of a run has a fixed size, and what closes and waits in it is proved by places.
 #[derive(Clone, Copy)]
 pub struct Levels {
     pub open: [Level; DEPTH],

@@ -1,10 +1,10 @@
-// Sets of rule nodes.
+//! Sets of rule nodes.
 ghost use Rattle.std.specs.Prelude.{◌≡◌, ℕ, ◌^◌, ◌<◌, ◌⊎◌, ◌↔◌, Decides, bit_or};
 ghost use Rattle.runs.specs.Bits.{Has};
 
 use std::marker::Model;
 
-// A set of the numbers 0 to 63, as the bits of a word.
+/// A set of the numbers 0 to 63, as the bits of a word.
 #[derive(Clone, Copy, PartialEq, Eq, Debug)]
 pub struct NodeSet {
     word: u64,
@@ -21,7 +21,7 @@ impl Model for NodeSet {
 }
 
 impl NodeSet {
-    // No number.
+    /// No number.
     #[tactic(auto, using(crate::proofs::BitLaws::has_none))]
     pub fn empty() -> NodeSet
         ensures word { result ≡ 0 }
@@ -30,7 +30,7 @@ impl NodeSet {
         NodeSet { word: 0 }
     }
 
-    // Whether the number is in the set.
+    /// Whether the number is in the set.
     #[tactic(auto, using(crate::proofs::BitLaws::contains_told))]
     pub fn contains(self, number: usize) -> bool
         ensures { Decides result (Has self number) }
@@ -39,7 +39,7 @@ impl NodeSet {
         number < 64 && (word >> number) & 1 == 1
     }
 
-    // Adds the number, if it is below 64.
+    /// Adds the number, if it is below 64.
     #[tactic(auto, using(crate::proofs::BitLaws::insert_told, crate::proofs::BitLaws::insert_fits))]
     pub fn insert(&mut self, number: usize)
         ensures { (x : ℕ) → Has self.new x ↔ (Has self.old x ⊎ ((x ≡ number) × (number < 64))) }
@@ -49,7 +49,7 @@ impl NodeSet {
         }
     }
 
-    // What is in both.
+    /// What is in both.
     #[tactic(auto, using(crate::proofs::BitLaws::intersection_told))]
     pub fn intersection(self, other: NodeSet) -> NodeSet
         ensures { (x : ℕ) → Has result x ↔ (Has self x × Has other x) }
@@ -59,7 +59,7 @@ impl NodeSet {
         }
     }
 
-    // What is in one of them.
+    /// What is in one of them.
     #[tactic(auto, using(crate::proofs::BitLaws::union_told, crate::proofs::BitLaws::or_fits))]
     pub fn union(self, other: NodeSet) -> NodeSet
         ensures word { result ≡ bit_or self other }
@@ -70,7 +70,7 @@ impl NodeSet {
         }
     }
 
-    // The numbers below `count`, of those below 64, that are not in the set.
+    /// The numbers below `count`, of those below 64, that are not in the set.
     #[tactic(auto, using(crate::proofs::BitLaws::missing_none, crate::proofs::BitLaws::missing_told))]
     pub fn missing_below(self, count: usize) -> NodeSet
         ensures { (x : ℕ) → Has result x ↔ ((x < count) × (x < 64) × (Has self x → ⊥)) }

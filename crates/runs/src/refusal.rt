@@ -1,4 +1,4 @@
-// Why a run refuses a call: for its state.
+//! Why a run refuses a call: for its state.
 ghost use Rattle.std.specs.Prelude.{◌≡◌};
 ghost use Rattle.runs.specs.Refusals.{number};
 

@@ -1,11 +1,11 @@
-// The value of a run.
+//! The value of a run.
 ghost use Rattle.rules.specs.RuleNodes.{rule_nodes};
 ghost use Rattle.runs.specs.Stands.{Tree, Stands};
 
 use crate::levels::Levels;
 use rules::rule::Rule;
 
-// A run of one rule. It stands for some state of the reference model.
+/// A run of one rule. It stands for some state of the reference model.
 #[derive(Drop)]
 pub struct Run<'r> {
     pub(crate) rule: &'r Rule,

@@ -1,4 +1,4 @@
-// The search for the rule nodes whose tests a label meets.
+//! The search for the rule nodes whose tests a label meets.
 ghost use Rattle.std.specs.Prelude.{◌≡◌, ℕ, ◌<◌, true, ◌↔◌, length};
 ghost use Rattle.rules.specs.Rule.{any_of};
 ghost use Rattle.rules.specs.RuleNodes.{rule_nodes};
@@ -22,7 +22,7 @@ fn any_nodes(rule: &Rule) -> NodeSet
     met
 }
 
-// The rule nodes whose test `label` meets, where `labels` has the labels of the tests by the numbers of the rule nodes.
+/// The rule nodes whose test `label` meets, where `labels` has the labels of the tests by the numbers of the rule nodes.
 pub fn nodes_met<L: LabelKind>(rule: &Rule, labels: &[L], label: &L) -> NodeSet
     ensures { (x : ℕ) → Has result x ↔ ((x < length (rule_nodes rule.now)) × Meets L.eq (rule_nodes rule.now) labels.now label.now x) }
 {

@@ -1,4 +1,4 @@
-// The calls, on the levels and the ring.
+//! The calls, on the levels and the ring.
 ghost use Rattle.std.specs.Prelude.{◌≡◌, ◌<◌};
 ghost use Rattle.rules.specs.RuleNodes.{rule_nodes};
 ghost use Rattle.runs.specs.Words.{new_level, words, no_words, Opens, Closes, Takes, Waits, Merges, Kept};
@@ -24,7 +24,7 @@ impl Level {
 }
 
 impl Levels {
-    // Nothing open, nothing waiting.
+    /// Nothing open, nothing waiting.
     pub fn new() -> Levels
         ensures { words result ≡ no_words }
     {
@@ -38,7 +38,7 @@ impl Levels {
         }
     }
 
-    // A new innermost open node that meets the tests `met`.
+    /// A new innermost open node that meets the tests `met`.
     pub fn open(&mut self, met: NodeSet) -> Result<u32, Refusal>
         ensures opens { Opens met (words self.old) result (words self.new) }
         ensures kept { Kept self.old result self.new }
@@ -57,7 +57,7 @@ impl Levels {
         Ok(number)
     }
 
-    // Ends the innermost open node, and says whether it is selected.
+    /// Ends the innermost open node, and says whether it is selected.
     pub fn close(&mut self, rule: &Rule) -> Result<bool, Refusal>
         ensures closes { Closes (rule_nodes rule.now) (words self.old) result (words self.new) }
         ensures kept { Kept self.old result self.new }
@@ -106,7 +106,7 @@ impl Levels {
         self.depth = at;
     }
 
-    // Moves the oldest waiting numbers to the front of `out`, as many as wait and fit, and says how many.
+    /// Moves the oldest waiting numbers to the front of `out`, as many as wait and fit, and says how many.
     pub fn take(&mut self, out: &mut [u32]) -> usize
         ensures { Takes (words self.old) out.old result out.new (words self.new) }
     {

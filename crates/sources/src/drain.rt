@@ -1,9 +1,9 @@
-// What a source still has to tell.
+//! What a source still has to tell.
 ghost use Rattle.std.specs.Prelude.{◌≡◌, ◌<◌, ◌≤◌, min, length, drop, None};
 
 use crate::source::Source;
 
-// How many events come, and the fault behind them, if one comes. No more events are heard than asked for.
+/// How many events come, and the fault behind them, if one comes. No more events are heard than asked for.
 #[tactic(auto, using(crate::proofs::Answered::from_err))]
 pub fn drained<S: Source>(source: &mut S, most: usize) -> (usize, Option<S::Fault>)
     ensures count { result.0 ≡ min most (length (S.events source.old)) }

@@ -1,4 +1,4 @@
-// An opening with the label of the node that it opens, or a closing of the last node still open.
+//! An opening with the label of the node that it opens, or a closing of the last node still open.
 #[derive(Clone, Copy)]
 pub enum Event<L> {
     Open(L),

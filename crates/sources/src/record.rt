@@ -1,18 +1,18 @@
-// The records of a folder table.
+//! The records of a folder table.
 ghost use Rattle.std.specs.Prelude.{◌≡◌, Some};
 ghost use Rattle.sources.specs.Faults.{number, record_number, fault_text};
 
 use std::error::Error;
 use std::fmt;
 
-// A folder: how deep it lies, and its label.
+/// A folder: how deep it lies, and its label.
 #[derive(Clone, Copy)]
 pub struct Record<L> {
     pub depth: u32,
     pub label: L,
 }
 
-// What is wrong with a folder table.
+/// What is wrong with a folder table.
 #[derive(Clone, Copy, PartialEq, Eq, Debug)]
 pub enum TableFault {
     // The depth of the record with this number.
@@ -28,7 +28,7 @@ impl TableFault {
         }
     }
 
-    // The number of the record at fault.
+    /// The number of the record at fault.
     pub fn record(&self) -> usize
         ensures { result ≡ record_number self.now }
     {
@@ -48,7 +48,7 @@ impl fmt::Display for TableFault {
 
 impl Error for TableFault {}
 
-// A folder table, read record by record; `level` nodes are open. The place is kept, since a fault tells the record's number.
+/// A folder table, read record by record; `level` nodes are open. The place is kept, since a fault tells the record's number.
 #[derive(Drop)]
 pub struct FolderTable<'a, L> {
     pub(crate) records: &'a [Record<L>],

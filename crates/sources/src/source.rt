@@ -1,4 +1,4 @@
-// What a source of events is.
+//! What a source of events is.
 ghost use Rattle.std.specs.Prelude.{◌≡◌, List, None, Option};
 ghost use Rattle.sources.specs.declared.event.Event.{Event};
 ghost use Rattle.sources.specs.Events.{ClosedFrom, answer, rest};
@@ -6,7 +6,7 @@ ghost use Rattle.sources.specs.Events.{ClosedFrom, answer, rest};
 use crate::event::Event;
 use labels::kind::LabelKind;
 
-// A source means the events still to come, finitely many, and its ending: done, which is None, or a fault.
+/// A source means the events still to come, finitely many, and its ending: done, which is None, or a fault.
 pub trait Source {
     type Label: LabelKind;
 
@@ -16,7 +16,7 @@ pub trait Source {
 
     ghost ending: { Self → Option Self.Fault };
 
-    // Hands out the first event and keeps the others. With no event left it answers the ending, each time.
+    /// Hands out the first event and keeps the others. With no event left it answers the ending, each time.
     fn next(&mut self) -> Result<Option<Event<Self::Label>>, Self::Fault>
         ensures answer { result ≡ answer (events self.old) (ending self.old) }
         ensures others { events self.new ≡ rest (events self.old) }

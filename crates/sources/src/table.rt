@@ -1,4 +1,4 @@
-// The folder table as a source.
+//! The folder table as a source.
 ghost use Rattle.std.specs.Prelude.{[], None};
 ghost use Rattle.sources.specs.Inner.{Shuts, SamePlace};
 ghost use Rattle.sources.specs.Table.{table_events, table_ending, Listing};
@@ -10,7 +10,7 @@ use labels::kind::LabelKind;
 use std::cmp::Ordering;
 
 impl<'a, L: LabelKind> FolderTable<'a, L> {
-    // A source of the nodes of the records.
+    /// A source of the nodes of the records.
     #[tactic(auto, using(crate::proofs::TableListed::listed))]
     pub fn new(records: &'a [Record<L>]) -> FolderTable<'a, L>
         ensures { Listing 0 None [] records.now (table_events result) (table_ending result) }

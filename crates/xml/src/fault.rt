@@ -1,4 +1,4 @@
-// What can be wrong with a listing, and what the reader comes to.
+//! What can be wrong with a listing, and what the reader comes to.
 ghost use Rattle.std.specs.Prelude.{◌≡◌, Some};
 ghost use Rattle.xml.specs.Faults.{scan_number, scan_place, number, place, fault_text, look_number};
 ghost use Rattle.xml.specs.declared.fault.LookFault.{LookFault};
@@ -7,7 +7,7 @@ ghost use Rattle.xml.specs.declared.fault.XmlFault.{XmlFault};
 use std::error::Error;
 use std::fmt;
 
-// What a scan finds, with the place.
+/// What a scan finds, with the place.
 #[derive(Clone, Copy, PartialEq, Eq, Debug)]
 pub enum ScanFault {
     // The byte is not allowed.
@@ -18,7 +18,7 @@ pub enum ScanFault {
     LongName(usize),
 }
 
-// What the source finds, with the place.
+/// What the source finds, with the place.
 #[derive(Clone, Copy, PartialEq, Eq, Debug)]
 pub enum XmlFault {
     Scan(ScanFault),
@@ -30,7 +30,7 @@ pub enum XmlFault {
     Deep(usize),
 }
 
-// Why a look ahead answers no name: the listing's fault, or the first event is past.
+/// Why a look ahead answers no name: the listing's fault, or the first event is past.
 #[derive(Clone, Copy, PartialEq, Eq, Debug)]
 pub enum LookFault {
     Listing(XmlFault),

@@ -1,4 +1,4 @@
-// Looking ahead at the root's name.
+//! Looking ahead at the root's name.
 ghost use Rattle.std.specs.Prelude.{◌≡◌, ◌≤◌, false, length, MatchResult};
 ghost use Rattle.xml.specs.Means.{Looks, NoLook, Kept, Unmoved};
 ghost use Rattle.xml.specs.Inner.{RootNamed, RootFails};
@@ -56,7 +56,7 @@ impl<'a> Tags<'a> {
 }
 
 impl<'a> Xml<'a> {
-    // The root's name, before the first event.
+    /// The root's name, before the first event.
     pub fn look_ahead(&mut self) -> Result<&'a [u8], LookFault>
         ensures answer { MatchResult result (λ w. Looks self.old w.now) (NoLook self.old) }
         ensures unmoved { Unmoved self.old self.new }

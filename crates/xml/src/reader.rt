@@ -1,4 +1,4 @@
-// The reader's state.
+//! The reader's state.
 ghost use Rattle.std.specs.Prelude.{◌≡◌, ◌≤◌, false, [], length};
 ghost use Rattle.xml.specs.Reading.{levels};
 
@@ -22,7 +22,7 @@ pub(crate) struct Tags<'a> {
     ghost fresh: { rooted ≡ false → opened.items ≡ [] },
 }
 
-// The reader: it reads tag by tag, and hands out two events for the tag of an empty element.
+/// The reader: it reads tag by tag, and hands out two events for the tag of an empty element.
 #[derive(Drop)]
 pub struct Xml<'a> {
     pub(crate) tags: Tags<'a>,

@@ -1,5 +1,5 @@
-// Where names and tags end. A scan starts at any place, also past the end of the input. It takes and answers bare places, since the
-// faults and the tags tell places: a cursor would be taken apart and made again at each step.
+//! Where names and tags end. A scan starts at any place, also past the end of the input. It takes and answers bare places, since the
+//! faults and the tags tell places: a cursor would be taken apart and made again at each step.
 ghost use Rattle.std.specs.Prelude.{◌≡◌, ◌≤◌, length, MatchResult};
 ghost use Rattle.labels.specs.Spelling.{byte, Longest, Spelled};
 ghost use Rattle.xml.specs.Bytes.{plain};
@@ -10,7 +10,7 @@ use crate::fault::ScanFault;
 use labels::spelling;
 use labels::spelling::{NoName, is_white, rest, run_end, white_end};
 
-// The end of the name at the place.
+/// The end of the name at the place.
 pub fn name_end(input: &[u8], at: usize) -> Result<usize, ScanFault>
     ensures { MatchResult result (Spelled input.now at) (Told (NameFault input.now at)) }
 {
@@ -64,7 +64,7 @@ fn tag_end(input: &[u8], at: usize) -> Result<usize, ScanFault>
     }
 }
 
-// A start tag: its name, the place behind the tag, and whether the element is empty.
+/// A start tag: its name, the place behind the tag, and whether the element is empty.
 #[derive(Clone, Copy)]
 pub struct Opening<'a> {
     pub name: &'a [u8],
@@ -72,7 +72,7 @@ pub struct Opening<'a> {
     pub empty: bool,
 }
 
-// The start tag whose name begins at the place.
+/// The start tag whose name begins at the place.
 pub fn start_tag(input: &[u8], at: usize) -> Result<Opening<'_>, ScanFault>
     ensures { MatchResult result (Tagged input.now at) (Told (StartFault input.now at)) }
 {
@@ -85,7 +85,7 @@ pub fn start_tag(input: &[u8], at: usize) -> Result<Opening<'_>, ScanFault>
     })
 }
 
-// The place of the `>` that ends an end tag, whose name ends at `at`.
+/// The place of the `>` that ends an end tag, whose name ends at `at`.
 #[tactic(auto, using(crate::proofs::Ends::white_closes))]
 pub fn end_tag_end(input: &[u8], at: usize) -> Result<usize, ScanFault>
     ensures { at ≤ length input.now → MatchResult result (EndEnds input.now at) (Told (EndFault input.now at)) }

@@ -1,4 +1,4 @@
-// What stands between tags. Bare places go in and come out, for the reason at the head of scan.rt.
+//! What stands between tags. Bare places go in and come out, for the reason at the head of scan.rt.
 ghost use Rattle.std.specs.Prelude.{◌≡◌, ◌+◌, ◌<◌, ◌≤◌, ◌&&◌, length, drop, MatchResult, ◌==◌, slice_index, not};
 ghost use Rattle.labels.specs.Spelling.{Longest};
 ghost use Rattle.xml.specs.Bytes.{apart};
@@ -115,7 +115,7 @@ fn skip_one(input: &[u8], at: usize, inside: bool) -> Result<ControlFlow<Stop, u
     }
 }
 
-// Reads on to the next tag or the end, and tells which.
+/// Reads on to the next tag or the end, and tells which.
 pub fn skip(input: &[u8], place: &mut usize, inside: bool) -> Result<Stop, XmlFault>
     ensures within { place.old ≤ length input.now → place.new ≤ length input.now }
     ensures passes { Passes input.now inside place.old place.new }

@@ -1,4 +1,4 @@
-// The reader as a source.
+//! The reader as a source.
 ghost use Rattle.std.specs.Prelude.{◌≡◌, ℕ, false, List, [], None};
 ghost use Rattle.sources.specs.Events.{ClosedFrom, answer, rest};
 ghost use Rattle.sources.specs.declared.event.Event.{Event};
@@ -14,7 +14,7 @@ use sources::event::Event;
 use sources::source::Source;
 
 impl<'a> Xml<'a> {
-    // A reader of the input.
+    /// A reader of the input.
     pub fn new(input: &'a [u8]) -> Xml<'a>
         ensures fresh { result.tags.rooted ≡ false }
         ensures reads { Reads input.now 0 [] false (xml_bytes result) (xml_ending result) }

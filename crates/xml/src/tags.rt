@@ -1,4 +1,4 @@
-// Reading tag by tag.
+//! Reading tag by tag.
 ghost use Rattle.std.specs.Prelude.{◌≡◌, ◌≤◌, false, [], length, drop, Decides, MatchResult};
 ghost use Rattle.labels.specs.NameOf.{name_of};
 ghost use Rattle.labels.specs.Spelling.{name_limit};
