@@ -1,6 +1,8 @@
 -- The machine with the limits, and that it answers as the definitions say. Assumes nothing.
-use Rattle.std.proofs.Common.{◌≡◌, ℕ, zero, suc, ◌+◌, ◌<◌, ◌≤◌, cond, ltb, leb, ◌⊎◌, List, [], ◌∷◌, ◌++◌, length, sym, refl, ap, ◌∙◌, subst, inl, inr, append_assoc, append-nil, arith}
+use Rattle.std.proofs.Common.{◌≡◌, ℕ, zero, suc, ◌+◌, ◌<◌, ◌≤◌, Bool, cond, ltb, leb, ◌⊎◌, List, [], ◌∷◌, ◌++◌, length, sym, refl, ap, ◌∙◌, subst, inl, inr, append_assoc, append-nil, arith}
 use Rattle.std.proofs.lemmas.List.{length_push}
+use Rattle.std.proofs.lemmas.List.Sums.{sum_by_push}
+use Rattle.std.proofs.lemmas.Bool.{false≢true}
 use Rattle.std.proofs.lemmas.Bool.Decides.{nat_tests}
 use Rattle.rules.specs.declared.syntax.Kind.{Kind}
 use Rattle.rules.specs.declared.syntax.Kind.TheVariants.{DoubleSlash, Slash, Dot, Open, Close, Star, Name, Stray, End}
@@ -16,9 +18,12 @@ use Rattle.rules.proofs.Machine.{sound, begins, begins_not, moves_append, no_mov
 ------------------------------------------------------------------------
 -- the state counts the tests and the brackets
 
+abbrev one : Bool → ℕ
+one b = cond b 1 0
+
 record Gain (k : Kind) (s u : State) : Type 0 where
-  tests : length (nodes u) ≡ length (nodes s) + is_test k
-  brackets : depth u + is_close k ≡ depth s + is_open k
+  tests : length (nodes u) ≡ length (nodes s) + one (is_test k)
+  brackets : depth u + one (is_close k) ≡ depth s + one (is_open k)
 
 to_same : {s u : State} → to s ≡ to u → s ≡ u
 to_same e = cc
@@ -89,9 +94,8 @@ record Tally (before : List Token) (s : State) : Type 0 where
   pub tests : count is_test before ≡ length (nodes s)
   pub brackets : count is_open before ≡ depth s + count is_close before
 
-count_push : (f : Kind → ℕ) (ts : List Token) (t : Token) → count f (ts ++ (t ∷ [])) ≡ count f ts + f t.kind
-count_push f [] t = omega arith
-count_push f (x ∷ ts) t = omega (arith, count_push f ts t)
+count_push : (f : Kind → Bool) (ts : List Token) (t : Token) → count f (ts ++ (t ∷ [])) ≡ count f ts + one (f t.kind)
+count_push f ts t = sum_by_push (λ (x : Token). one (f x.kind)) ts t
 
 tally_more : (before : List Token) (t : Token) (s u : State) → move s t ≡ to u → Tally before s → Tally (before ++ (t ∷ [])) u
 tally_more before t s u e h =
@@ -105,10 +109,10 @@ tally_more before t s u e h =
 -- what is wrong with one token
 
 name_open : {X : Type 0} (k : Kind) → k ≡ Name → k ≡ Open → X
-name_open k p q = let z : ◌≡◌ {A = ℕ} 0 1 = ap is_open (sym p ∙ q) in absurd (omega arith)
+name_open k p q = absurd (false≢true (ap is_open (sym p ∙ q)))
 
 star_open : {X : Type 0} (k : Kind) → k ≡ Star → k ≡ Open → X
-star_open k p q = let z : ◌≡◌ {A = ℕ} 0 1 = ap is_open (sym p ∙ q) in absurd (omega arith)
+star_open k p q = absurd (false≢true (ap is_open (sym p ∙ q)))
 
 module _ (before : List Token) (t : Token) (s : State) (tally : Tally before s) where
   fine : Begins (before ++ (t ∷ [])) → excess s t ≡ 0 → (k : ℕ) → Offends before t k → ⊥

@@ -1,5 +1,6 @@
 -- Which rule texts are accepted, and with what number and at which place the others are refused.
-use Rattle.std.specs.Prelude.{◌≡◌, ℕ, ◌+◌, ◌-◌, ◌<◌, ◌≤◌, List, [], ◌∷◌, ◌++◌}
+use Rattle.std.specs.Prelude.{◌≡◌, ℕ, ◌-◌, ◌<◌, ◌≤◌, Bool, true, false, List, [], ◌∷◌, ◌++◌}
+use Rattle.std.specs.List.{count_by}
 use Rattle.rules.specs.declared.syntax.Kind.{Kind}
 use Rattle.rules.specs.declared.syntax.Kind.TheVariants.{Open, Close, Star, Name}
 use Rattle.rules.specs.declared.syntax.Token.{Token}
@@ -8,24 +9,24 @@ use Rattle.labels.specs.Spelling.{name_limit}
 use Rattle.rules.specs.Limits.{node_limit, bracket_limit}
 use Rattle.rules.specs.Grammar.{Test, Text, Begins}
 
-abbrev pub is_test : Kind → ℕ
-is_test Name = 1
-is_test Star = 1
-is_test _ = 0
+abbrev pub is_test : Kind → Bool
+is_test Name = true
+is_test Star = true
+is_test _ = false
 
-abbrev pub is_open : Kind → ℕ
-is_open Open = 1
-is_open _ = 0
+abbrev pub is_open : Kind → Bool
+is_open Open = true
+is_open _ = false
 
-abbrev pub is_close : Kind → ℕ
-is_close Close = 1
-is_close _ = 0
+abbrev pub is_close : Kind → Bool
+is_close Close = true
+is_close _ = false
 
 -- how many of the tokens are of a kind
-abbrev pub count : (Kind → ℕ) → List Token → ℕ
-count f [] = 0
-count f (t ∷ ts) = f t.kind + count f ts
+abbrev pub count : (Kind → Bool) → List Token → ℕ
+count of ts = count_by (λ t. of t.kind) ts
 
+-- how many brackets are open behind the tokens
 abbrev pub open_brackets : List Token → ℕ
 open_brackets ts = count is_open ts - count is_close ts
 
