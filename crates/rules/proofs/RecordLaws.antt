@@ -1,10 +1,10 @@
 -- Records and the rule nodes that they write.
-use Rattle.std.proofs.Common.{◌≡◌, ℕ, zero, suc, ◌+◌, ◌*◌, ◌/◌, ◌%◌, ◌<◌, ◌≤◌, Bool, true, false, eqb, List, [], length, get_or, take, drop, set, Some, None, Decides, Option, Result, Ok, Err, sym, refl, ap, ◌∙◌, subst, inl, inr, arith, add-zero, below_more}
+use Rattle.std.proofs.Common.{◌≡◌, ℕ, zero, suc, ◌+◌, ◌-◌, ◌*◌, ◌/◌, ◌%◌, ◌<◌, ◌≤◌, Bool, true, false, eqb, List, [], length, get_or, take, drop, set, Some, None, Decides, Option, Result, Ok, Err, sym, refl, ap, ◌∙◌, subst, inl, inr, arith, below_more}
 use denote.Enum.Bare.{sameb}
 use Rattle.std.specs.Simd.{first_chunks}
 use Rattle.std.specs.Result.{result_ok}
-use Rattle.labels.specs.Spelling.{byte}
-use Rattle.std.proofs.lemmas.List.{same_lists, length-take-le, drop-drop, get_or-take, get_or-drop, get_or-set_same, get_or-set_other}
+use Rattle.labels.specs.Spelling.{part}
+use Rattle.std.proofs.lemmas.List.{same_lists, length-take-le, drop-drop, get_or-take, get_or-set_same, get_or-set_other}
 use Rattle.std.proofs.lemmas.Option.{slice_get-get_or}
 use Rattle.std.proofs.lemmas.Bool.{cases_lt, eqb-true, false≢true}
 use Rattle.rules.specs.declared.node.Edge.{Edge}
@@ -143,23 +143,18 @@ chunk_at bs (suc k) (suc i) h =
     let there : 3 + 3 * i ≡ 3 * suc i = omega arith in
     chunk_at (drop 3 bs) k i (omega arith) ∙ ap (take 3) (drop-drop (3 * i) 3 bs ∙ ap (λ (n : ℕ). drop n bs) (omega arith))
 
-byte_at : (bs : List ℕ) (k i j : ℕ) → i < k → j < 3 → get_or (get_or (first_chunks 3 k bs) i []) j 0 ≡ get_or bs (3 * i + j) 0
-byte_at bs k i j h l = ap (λ (xs : List ℕ). get_or xs j 0) (chunk_at bs k i h) ∙ get_or-take 3 (drop (3 * i) bs) j 0 l ∙ get_or-drop (3 * i) bs j 0
-
 -- chunks of three bytes are the records
 module _ (bs : List ℕ) (chunks : List (List ℕ)) (are : chunks ≡ first_chunks 3 (length bs / 3) bs) (i : ℕ) (n : RuleNode) (h : i < length bs / 3) where
-  bytes_are : ◌≡◌ {A = ℕ × ℕ × ℕ} (get_or (get_or chunks i []) 0 0, get_or (get_or chunks i []) 1 0, get_or (get_or chunks i []) 2 0) (byte bs (3 * i), byte bs (3 * i + 1), byte bs (3 * i + 2))
-  bytes_are j = (
-    (ap (λ (c : List (List ℕ)). get_or (get_or c i []) 0 0) are ∙ byte_at bs _ i 0 h (omega arith) ∙ ap (λ m. get_or bs m 0) (add-zero (3 * i))) j,
-    (ap (λ (c : List (List ℕ)). get_or (get_or c i []) 1 0) are ∙ byte_at bs _ i 1 h (omega arith)) j,
-    (ap (λ (c : List (List ℕ)). get_or (get_or c i []) 2 0) are ∙ byte_at bs _ i 2 h (omega arith)) j,
-  )
+  chunk_is : get_or chunks i [] ≡ part bs (3 * i) (3 * i + 3)
+  chunk_is =
+      let three : 3 ≡ 3 * i + 3 - 3 * i = omega arith in
+      ap (λ (c : List (List ℕ)). get_or c i []) are ∙ chunk_at bs _ i h ∙ ap (λ (m : ℕ). take m (drop (3 * i) bs)) three
 
   record_at : RecordWrites i (get_or chunks i []) n → RecordAt bs i n
-  record_at w = subst (λ (t : ℕ × ℕ × ℕ). Writes i t.0 t.1 t.2 n) bytes_are w
+  record_at w = subst (λ (xs : List ℕ). RecordWrites i xs n) chunk_is w
 
   at_record : RecordAt bs i n → RecordWrites i (get_or chunks i []) n
-  at_record w = subst (λ (t : ℕ × ℕ × ℕ). Writes i t.0 t.1 t.2 n) (sym bytes_are) w
+  at_record w = subst (λ (xs : List ℕ). RecordWrites i xs n) (sym chunk_is) w
 
 -- the rule nodes of the first k places are those of the records
 recorded : (bs : List ℕ) (nodes : List RuleNode) (k : ℕ) → Whole bs k → length nodes ≡ node_limit

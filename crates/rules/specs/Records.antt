@@ -1,7 +1,7 @@
 -- Rules written as records of three bytes: parent, edge, any.
 use Rattle.std.specs.Prelude.{◌≡◌, ℕ, ◌+◌, ◌*◌, ◌<◌, ◌≤◌, Bool, true, false, List, length, Some, None, Option, Result, MatchResult}
 use Rattle.std.specs.List.{slice_get}
-use Rattle.labels.specs.Spelling.{byte}
+use Rattle.labels.specs.Spelling.{byte, part}
 use Rattle.rules.specs.declared.node.Edge.{Edge}
 use Rattle.rules.specs.declared.node.Edge.TheVariants.{Child, Descendant}
 use Rattle.rules.specs.declared.node.RuleNode.{RuleNode}
@@ -41,7 +41,7 @@ RecordWrites i bs n = Writes i (byte bs 0) (byte bs 1) (byte bs 2) n
 
 -- record i of the bytes writes the rule node
 abbrev pub RecordAt : List ℕ → ℕ → RuleNode → Type 0
-RecordAt bs i n = Writes i (byte bs (3 * i)) (byte bs (3 * i + 1)) (byte bs (3 * i + 2)) n
+RecordAt bs i n = RecordWrites i (part bs (3 * i) (3 * i + 3)) n
 
 -- it writes none
 abbrev pub BadAt : List ℕ → ℕ → Type 0
