@@ -7,7 +7,7 @@ ghost use Rattle.birdelectrum.specs.Reports.{Bad, Fine, Reports};
 
 use crate::refusal::{INPUT, Refusal, Stop};
 use labels::name::Name;
-use rules::rule::{RULE_NODES, Rule};
+use rules::rule::{NODE_LIMIT, Rule};
 use runs::run::Run;
 use sources::event::Event;
 use sources::source::Source;
@@ -36,7 +36,7 @@ fn line_end(input: &[u8]) -> usize
 #[derive(Drop)]
 struct Selection<'a> {
     rule: Rule,
-    names: [Name; RULE_NODES],
+    names: [Name; NODE_LIMIT],
     listing: &'a [u8],
 }
 
@@ -49,7 +49,7 @@ fn read_input(input: &[u8]) -> Result<Selection<'_>, Refusal>
     }
     let end = line_end(input);
     let mut rule = Rule::new();
-    let mut names = [Name::empty(); RULE_NODES];
+    let mut names = [Name::empty(); NODE_LIMIT];
     rule.read_text(&input[..end], &mut names)?;
     let start = input.len().min(end + 1);
     Ok(Selection {

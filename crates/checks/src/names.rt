@@ -7,7 +7,7 @@ use labels::spelling::{NoName, name_end};
 // Whether the name of the bytes has these bytes.
 fn reads_back(bytes: &[u8]) -> Result<bool, NameRefusal> {
     let name = Name::try_from(bytes)?;
-    Ok(name.bytes().as_slice() == bytes)
+    Ok(name.to_bytes().as_slice() == bytes)
 }
 
 #[test]
@@ -16,7 +16,7 @@ fn bytes_come_back(rt: HostRuntime) {
     for n in 0..33usize {
         assert_eq!(rt; reads_back(&bytes[0..n]), Ok(true));
     }
-    assert!(rt; Name::empty().bytes().is_empty());
+    assert!(rt; Name::empty().to_bytes().is_empty());
 }
 
 #[test]
@@ -31,10 +31,10 @@ fn long_names_are_refused(rt: HostRuntime) {
 fn labels_from_names(rt: HostRuntime) {
     let bytes = [b'n'; 33];
     assert_eq!(rt;
-        Name::from_name(&bytes[0..32]),
+        Name::from_bytes(&bytes[0..32]),
         Name::try_from(&bytes[0..32])
     );
-    assert_eq!(rt; Name::from_name(&bytes), Err(NameRefusal::TooLong));
+    assert_eq!(rt; Name::from_bytes(&bytes), Err(NameRefusal::TooLong));
 }
 
 // Whether the names of the bytes are equal.

@@ -141,10 +141,10 @@ fn first_bytes(text: &[u8]) -> Result<[Option<u8>; 4], NameRefusal> {
     let mut names = [Name::try_from(b"old".as_slice())?; 64];
     let _ = rule.read_text(text, &mut names);
     Ok([
-        names[0].bytes().first().copied(),
-        names[1].bytes().first().copied(),
-        names[2].bytes().first().copied(),
-        names[3].bytes().first().copied(),
+        names[0].to_bytes().first().copied(),
+        names[1].to_bytes().first().copied(),
+        names[2].to_bytes().first().copied(),
+        names[3].to_bytes().first().copied(),
     ])
 }
 

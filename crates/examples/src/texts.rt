@@ -1,12 +1,12 @@
-//! Rules from texts and from records.
+//! Rules from texts and from records, and names.
 use labels::name::Name;
-use rules::rule::{RULE_NODES, Rule};
+use rules::rule::{NODE_LIMIT, Rule};
 use std::io;
 
 // Reads the text, and prints how many rule nodes it gives, or its refusal.
 fn show_text(rt: &impl Print, text: &str) -> io::Result<()> {
     let mut rule = Rule::new();
-    let mut names = [Name::empty(); RULE_NODES];
+    let mut names = [Name::empty(); NODE_LIMIT];
     match rule.read_text(text.as_bytes(), &mut names) {
         Ok(()) => {
             let count = rule.nodes().len();
@@ -28,6 +28,18 @@ fn show_records(rt: &impl Print, records: &[u8]) -> io::Result<()> {
     }
 }
 
+// Makes a name of the bytes, and prints how many it has, or the refusal.
+fn show_name(rt: &impl Print, bytes: &[u8]) -> io::Result<()> {
+    let count = bytes.len();
+    match Name::try_from(bytes) {
+        Ok(name) => {
+            let kept = name.to_bytes().len();
+            println!(rt; "a name of {count} bytes has {kept}")
+        }
+        Err(refusal) => println!(rt; "a name of {count} bytes: refused {refusal}"),
+    }
+}
+
 pub fn show(rt: &impl Print) -> io::Result<()> {
     show_text(rt, "//a[b][.//c]")?;
     show_text(rt, " // a [ b.//c / * ] ")?;
@@ -39,5 +51,7 @@ pub fn show(rt: &impl Print) -> io::Result<()> {
     show_text(rt, "//abcdefghijklmnopqrstuvwxyz_123456")?;
     show_records(rt, &[0, 0, 0, 0, 1, 1])?;
     show_records(rt, &[0, 0, 0, 0, 1])?;
-    show_records(rt, &[0, 0, 0, 1, 0, 0])
+    show_records(rt, &[0, 0, 0, 1, 0, 0])?;
+    show_name(rt, &[b'n'; 32])?;
+    show_name(rt, &[b'n'; 33])
 }

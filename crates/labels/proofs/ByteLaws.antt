@@ -7,7 +7,7 @@ use Rattle.std.proofs.lemmas.Option.{slice_get-get_or, slice_get_within, get_or_
 use Rattle.std.proofs.lemmas.Bool.{cases_lt, cond_both, ltb-true, ltb-false}
 use Rattle.labels.specs.declared.name.Name.{Name}
 use Rattle.labels.specs.Names.{digits, bytes_of}
-use Rattle.labels.specs.Words.{word_at_place}
+use Rattle.labels.specs.Words.{word_with}
 use Rattle.labels.specs.NameLaws.{length_digits, length_bytes}
 
 -- a digit of w is what stands at its end once the digits behind it are gone
@@ -87,7 +87,7 @@ module _ (n : Name) (i : ℕ) (l : i < n.len) where
       ∙ ap (λ (j : ℕ). get_or D j 0) r
       ∙ in_word n.len n.fourth 24 i (i % 8) (omega arith) (omega arith)
 
-  told : Told (word_at_place n i)
+  told : Told (word_with n i)
   told =
       cond_both (ltb i 8) n.first (cond (ltb i 16) n.second (cond (ltb i 24) n.third n.fourth)) Told
       (λ e. in_first (ltb-true i 8 e))
@@ -98,7 +98,7 @@ module _ (n : Name) (i : ℕ) (l : i < n.len) where
       (λ g. in_fourth (ltb-false i 24 g))))
 
   -- the byte at a place, by the word that has it
-  pub byte_told : (m w : ℕ) → w ≡ word_at_place n i → m ≡ min (n.len - (i - i % 8)) 8 → slice_get (bytes_of n) i ≡ Some (w / 2 ^ (8 * (m - 1 - i % 8)) % 256)
+  pub byte_told : (m w : ℕ) → w ≡ word_with n i → m ≡ min (n.len - (i - i % 8)) 8 → slice_get (bytes_of n) i ≡ Some (w / 2 ^ (8 * (m - 1 - i % 8)) % 256)
   byte_told m w e f =
       slice_get-get_or (bytes_of n) i 0 (omega (arith, length_bytes n))
       ∙ ap (λ (b : ℕ). Some b) (told ∙ ap (λ (v : ℕ). v / 2 ^ (8 * (min (n.len - (i - i % 8)) 8 - 1 - i % 8)) % 256) (sym e) ∙ ap (λ (k : ℕ). w / 2 ^ (8 * (k - 1 - i % 8)) % 256) (sym f))

@@ -10,7 +10,7 @@ use Rattle.std.proofs.lemmas.List.{drop-drop, take-append-drop, take_rest, take_
 use Rattle.labels.specs.Spelling.{name_limit}
 use Rattle.labels.specs.declared.name.Name.{Name}
 use Rattle.labels.specs.declared.name.NameRefusal.{NameRefusal}
-use Rattle.labels.specs.Names.{digits, bytes_of, MadeFrom, Naming, Making, MakingInverse}
+use Rattle.labels.specs.Names.{digits, bytes_of, OnlyMade, Naming, Making, MakingInverse}
 use Rattle.labels.specs.NameOf.{written, word_of, name_of}
 use Rattle.labels.specs.NameLaws.{length_bytes, Same, same_words}
 
@@ -172,7 +172,7 @@ is_name_of bs n e = bytes_one n (name_of bs) (e ∙ sym (name_bytes bs (few_byte
 -- making names
 
 -- a name with these bytes is the only one
-pub made_from : (bs : List ℕ) (n : Name) → bytes_of n ≡ bs → MadeFrom bs n
+pub made_from : (bs : List ℕ) (n : Name) → bytes_of n ≡ bs → OnlyMade bs n
 made_from bs n e = record { holds = e; only = λ m h. bytes_one m n (h ∙ sym e); no_other = λ k r. let few = few_bytes bs n e in let many = r.1 in absurd (omega arith) }
 
 pub making_of : (bs : List ℕ) (answer : Result Name NameRefusal) → Naming bs answer → Making bytes_of bs answer
@@ -180,7 +180,7 @@ making_of bs (Ok n) h = (h.holds, few_bytes bs n h.holds)
 making_of bs (Err f) h = h.holds
 
 pub making_inverse : MakingInverse
-making_inverse = record { bytes_back = λ bs n m. m.holds; name_back = back }
+making_inverse = record { bytes_back = λ bs n m. m.holds; name_is = λ bs n m. is_name_of bs n m.holds; name_back = back }
   where
     back : (n : Name) (answer : Result Name NameRefusal) → Naming (bytes_of n) answer → answer ≡ Ok n
     back n (Ok m) h = ap Ok (sym (h.only n refl))

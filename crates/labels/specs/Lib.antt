@@ -1,8 +1,8 @@
 pub mod Exact
 pub mod Printed
 pub mod Spelling
-pub mod Ends
-pub mod Names
+pub mod NoName
 pub mod NameOf
+pub mod Names
 pub mod Words
 pub mod NameLaws

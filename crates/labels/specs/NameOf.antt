@@ -10,7 +10,7 @@ abbrev pub written : ℕ → List ℕ → ℕ
 written v [] = v
 written v (b ∷ bs) = written (v * 256 + b) bs
 
--- the word of n bytes from the place p on
+-- the word of n bytes from the place p on; cut to n digits, so that it fits a word whatever the list holds
 abbrev pub word_of : List ℕ → ℕ → ℕ → ℕ
 word_of bs p n = written 0 (take n (drop p bs)) % 256 ^ n
 

@@ -11,16 +11,16 @@ abbrev pub part : List ℕ → ℕ → ℕ → List ℕ
 part bs p q = slice_range bs p q
 
 -- white space: space, tab, line feed and carriage return
-abbrev pub white : ℕ → Bool
-white b = b == 32 || (b == 9 || (b == 10 || b == 13))
+abbrev pub is_white : ℕ → Bool
+is_white b = b == 32 || (b == 9 || (b == 10 || b == 13))
 
 -- a name begins with an ASCII letter or `_`
-abbrev pub starts : ℕ → Bool
-starts b = is_ascii_alphabetic b || b == 95
+abbrev pub starts_name : ℕ → Bool
+starts_name b = is_ascii_alphabetic b || b == 95
 
 -- and goes on with these, digits, `.` and `-`
-abbrev pub inside : ℕ → Bool
-inside b = starts b || (is_ascii_digit b || (b == 46 || b == 45))
+abbrev pub continues_name : ℕ → Bool
+continues_name b = starts_name b || (is_ascii_digit b || (b == 46 || b == 45))
 
 -- The longest run of places from p on that pass the test ends at q; it does not pass the end.
 pub record Longest (ok : ℕ → Bool) (end p q : ℕ) : Type 0 where
@@ -38,8 +38,8 @@ pub record LongestBy (answers : ℕ → Bool → Type 0) (bs : List ℕ) (p q : 
 
 -- A name begins at p, and ends at q since it is as long as it can be.
 pub record Named (bs : List ℕ) (p q : ℕ) : Type 0 where
-  pub begins : starts (byte bs p) ≡ true
-  pub ends : Longest (λ i. inside (byte bs i)) (length bs) p q
+  pub begins : starts_name (byte bs p) ≡ true
+  pub ends : Longest (λ i. continues_name (byte bs i)) (length bs) p q
 
 -- A name has at most so many bytes.
 abbrev pub name_limit : ℕ

@@ -1,7 +1,7 @@
 //! Folder codes.
 use crate::kind::LabelKind;
 
-/// A folder's number on the server.
+/// A folder code: a number of 32 bits.
 #[derive(Clone, Copy, PartialEq, Eq, Debug)]
 pub struct FolderCode(pub u32);
 

@@ -16,8 +16,9 @@ pub trait NameLabel: LabelKind {
     ghost alike: { List ℕ → List ℕ → Bool };
 
     /// The label with these bytes, unless they are too many.
-    fn from_name(bytes: &[u8]) -> Result<Self, NameRefusal>
+    fn from_bytes(bytes: &[u8]) -> Result<Self, NameRefusal>
         ensures { Making spelled bytes.now result };
 
+    // labels are equal exactly when their bytes are equal as names
     ghost tied: { (a b : Self) → Self.eq a b ≡ alike (spelled a) (spelled b) };
 }

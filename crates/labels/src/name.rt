@@ -8,9 +8,8 @@ use arrayvec::ArrayVec;
 use std::error::Error;
 use std::fmt;
 
-/// A name of 0 to 32 bytes, eight bytes to a word: each word is the number that its bytes write in base 256. Words and a length, with
-/// no array, so that an event can carry it.
-#[derive(Clone, Copy, PartialEq, Eq, Debug)]
+/// A name of 0 to 32 bytes, eight bytes to a word: each word is the number that its bytes write in base 256.
+#[derive(Clone, Copy, PartialEq, Eq, Hash, Debug)]
 pub struct Name {
     len: usize,
     first: u64,
@@ -25,7 +24,7 @@ pub struct Name {
 }
 
 /// Why no name is made.
-#[derive(Debug, Clone, Copy, PartialEq, Eq)]
+#[derive(Clone, Copy, PartialEq, Eq, Debug)]
 pub enum NameRefusal {
     TooLong,
 }
@@ -61,7 +60,7 @@ impl Error for NameRefusal {}
 impl Name {
     ghost use Rattle.std.specs.Prelude.{◌≡◌, [], length, Some};
     ghost use Rattle.std.specs.List.{slice_get};
-    ghost use Rattle.labels.specs.Words.{word_at_place};
+    ghost use Rattle.labels.specs.Words.{word_with};
     ghost use Rattle.labels.specs.Names.{digits, bytes_of};
 
     /// The name of no bytes.
@@ -79,7 +78,7 @@ impl Name {
 
     /// The bytes of the name.
     #[tactic(auto, using(crate::specs::NameLaws::length_bytes, crate::proofs::ByteLaws::next_byte, crate::proofs::ByteLaws::all_bytes))]
-    pub fn bytes(&self) -> ArrayVec<u8, NAME_LIMIT>
+    pub fn to_bytes(&self) -> ArrayVec<u8, NAME_LIMIT>
         ensures { result.items ≡ bytes_of self.now }
     {
         let mut bytes = ArrayVec::new();
@@ -91,7 +90,7 @@ impl Name {
 
     // The word with the byte at the place.
     fn word_with(&self, at: usize) -> u64
-        ensures { result ≡ word_at_place self.now at }
+        ensures { result ≡ word_with self.now at }
     {
         if at < 8 {
             self.first
@@ -172,7 +171,7 @@ impl NameLabel for Name {
     ghost alike = { bytes_eq };
 
     #[tactic(auto, using(crate::proofs::Making::making_of))]
-    fn from_name(bytes: &[u8]) -> Result<Name, NameRefusal> {
+    fn from_bytes(bytes: &[u8]) -> Result<Name, NameRefusal> {
         Name::try_from(bytes)
     }
 

@@ -8,7 +8,7 @@ use Rattle.rules.specs.declared.syntax.Token.{Token}
 use Rattle.rules.specs.declared.syntax.ParsedNode.{ParsedNode}
 use Rattle.rules.specs.Grammar.{node, Step, step, Text, text}
 use Rattle.rules.specs.Rule.{is_child, Rooted, Ordered}
-use Rattle.rules.specs.Expression.{plain, rule_nodes_of}
+use Rattle.rules.specs.RuleNodes.{plain, plain_nodes}
 use Rattle.rules.specs.Texts.{TextGives, gives}
 use Rattle.rules.proofs.Order.{gives_ordered}
 use Rattle.std.proofs.lemmas.Option.{slice_get_within, get_or_from_slice_get}
@@ -27,13 +27,13 @@ gives_first (gives f l a) = text_first a.formed
 pub given_some : {bs : List ℕ} {ns : List ParsedNode} → TextGives bs ns → 0 < length ns
 given_some {bs} {ns} g = let r = gives_first g in slice_get_within ns 0 (node 0 Child r.0) r.1
 
-pub given_rooted : {bs : List ℕ} {ns : List ParsedNode} → TextGives bs ns → Rooted (rule_nodes_of ns)
+pub given_rooted : {bs : List ℕ} {ns : List ParsedNode} → TextGives bs ns → Rooted (plain_nodes ns)
 given_rooted {bs} {ns} g =
     let r = gives_first g in
-    let e : get_or (rule_nodes_of ns) 0 _ ≡ plain (node 0 Child r.0) = rule_at ns 0 (node 0 Child r.0) r.1 in
+    let e : get_or (plain_nodes ns) 0 _ ≡ plain (node 0 Child r.0) = rule_at ns 0 (node 0 Child r.0) r.1 in
     (ap (λ (n : RuleNode). n.parent) e, ap (λ (n : RuleNode). is_child n.edge) e)
 
-pub given_ordered : {bs : List ℕ} {ns : List ParsedNode} → TextGives bs ns → Ordered (rule_nodes_of ns)
+pub given_ordered : {bs : List ℕ} {ns : List ParsedNode} → TextGives bs ns → Ordered (plain_nodes ns)
 given_ordered {bs} {ns} g x pos l =
     let inside : x < length ns = omega (arith, length-map ns plain) in
     let r = some_at ns x inside in

@@ -13,7 +13,7 @@ use Rattle.rules.specs.declared.node.Edge.{Edge}
 use Rattle.rules.specs.declared.node.Edge.TheVariants.{Child}
 use Rattle.rules.specs.Machine.{lex, start, root, after, more, on_double, on_after, stuck, on_test, with_node, over, go, run, from, accepts}
 use Rattle.rules.specs.Texts.{Unfit, TextRefused, unfit}
-use Rattle.rules.specs.Parsing.{Lies, Parses}
+use Rattle.rules.specs.Parsing.{InText, Parses}
 use Rattle.rules.proofs.Answering.{fit, turns_away, accepting}
 use Rattle.rules.specs.Readers.{told, bytes, left, made, front, Unopened, Fresh, Kept, Expected, Unexpected, Enters, first, Begun, Joined, Room, StepRead, StepFails, PathFails}
 
@@ -103,7 +103,7 @@ parses {bs} {y} {z} s q =
     ∙ ap (λ k. go (on_after k n [] (made y)) (over k t.len (length (made y)) 0) t.place (λ u. run [] u)) q.kind ∙ ap accepts (sym q.made_same) in
     record {
       reads = accepting bs (made z) s.fits all;
-      lie = subst (λ bs. AllByRecursion (Lies bs) (made z)) (q.same ∙ s.same) z.lie;
+      in_text = subst (λ bs. AllByRecursion (InText bs) (made z)) (q.same ∙ s.same) z.in_text;
     }
 
 -- behind a step with its predicates, outside of brackets, only the end is allowed

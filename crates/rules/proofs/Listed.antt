@@ -13,7 +13,8 @@ use Rattle.rules.specs.Grammar.{Test, name, star, Text}
 use Rattle.rules.specs.Rule.{blank, parent_of, edge_of}
 use Rattle.rules.specs.Embedding.{Below, direct, Across, Embedding, Nodes, ChildIn, MeetsIn, OccursIn, ParentsFirst}
 use Rattle.rules.specs.XPath.{LocationPath, Context, ChildOf, Selected}
-use Rattle.rules.specs.Expression.{token_bytes, is_star, plain, rule_nodes_of, ParentIn, CalledIn, expression, TextStandsFor, stands_for, SelectsAlike, PlainReadings}
+use Rattle.rules.specs.Expression.{token_bytes, ParentIn, CalledIn, expression, TextStandsFor, stands_for, SelectsAlike, PlainReadings}
+use Rattle.rules.specs.RuleNodes.{is_star, plain, plain_nodes}
 use Rattle.rules.specs.Lexing.{Lexes}
 use Rattle.rules.specs.Machine.{to, ended, start, moves}
 use Rattle.rules.specs.Texts.{TextGives, gives}
@@ -27,7 +28,7 @@ some_at [] k h = absurd (omega arith)
 some_at (x ∷ xs) zero h = (x, refl)
 some_at (x ∷ xs) (suc k) h = some_at xs k (omega arith)
 
-pub rule_at : (ns : List ParsedNode) (k : ℕ) (n : ParsedNode) → slice_get ns k ≡ Some n → get_or (rule_nodes_of ns) k blank ≡ plain n
+pub rule_at : (ns : List ParsedNode) (k : ℕ) (n : ParsedNode) → slice_get ns k ≡ Some n → get_or (plain_nodes ns) k blank ≡ plain n
 rule_at [] k n h = let z : ◌≡◌ {A = ℕ} 0 1 = cc in absurd (omega arith)
 rule_at (m ∷ ns) zero n h = let e : m ≡ n = cc in ap plain e
 rule_at (m ∷ ns) (suc k) n h = rule_at ns k n h
@@ -64,14 +65,14 @@ node_across nodes edge.Descendant u v b = let r = below_last b in (Some r.0, r.2
 
 module _ {L : Type 0} (same : L → L → Bool) (spelled : L → List ℕ) (alike : List ℕ → List ℕ → Bool) (tied : (a b : L) → same a b ≡ alike (spelled a) (spelled b))
     (bs : List ℕ) (ns : List ParsedNode) (before labels : List L) (names : NamesIn spelled bs ns before labels) (nodes : Nodes L) (φ : ℕ → ℕ) (v : ℕ) where
-  module _ (m : Embedding (rule_nodes_of ns) (ChildIn nodes) (MeetsIn same (rule_nodes_of ns) labels nodes) v φ) where
-    within : (k : ℕ) (n : ParsedNode) → slice_get ns k ≡ Some n → k < length (rule_nodes_of ns)
+  module _ (m : Embedding (plain_nodes ns) (ChildIn nodes) (MeetsIn same (plain_nodes ns) labels nodes) v φ) where
+    within : (k : ℕ) (n : ParsedNode) → slice_get ns k ≡ Some n → k < length (plain_nodes ns)
     within k n h = let l = slice_get_within ns k n h in omega (arith, length-map ns plain)
 
     meets : (k : ℕ) (n : ParsedNode) → slice_get ns k ≡ Some n → Test n.test → MeetsNode bs (ParentIn nodes) (CalledIn spelled alike nodes) n (φ k)
     meets k n h t = by_test t (m.tests k (within k n h))
       where
-        by_label : n.test.kind ≡ Name → MeetsIn same (rule_nodes_of ns) labels nodes k (φ k) → MeetsNode bs (ParentIn nodes) (CalledIn spelled alike nodes) n (φ k)
+        by_label : n.test.kind ≡ Name → MeetsIn same (plain_nodes ns) labels nodes k (φ k) → MeetsNode bs (ParentIn nodes) (CalledIn spelled alike nodes) n (φ k)
         by_label e (p, l, here, inl any) =
             let r : is_star n.test.kind ≡ true = sym (ap (λ (z : RuleNode). z.any) (rule_at ns k n h)) ∙ any in
             inl (star_true n.test t r)
@@ -81,7 +82,7 @@ module _ {L : Type 0} (same : L → L → Bool) (spelled : L → List ℕ) (alik
             let z : y.0 ≡ w = cc in
             inr (e, (p, l, here, ap (alike (spelled l)) (sym y.2 ∙ ap spelled z) ∙ sym (tied l w) ∙ equal))
 
-        by_test : Test n.test → MeetsIn same (rule_nodes_of ns) labels nodes k (φ k) → MeetsNode bs (ParentIn nodes) (CalledIn spelled alike nodes) n (φ k)
+        by_test : Test n.test → MeetsIn same (plain_nodes ns) labels nodes k (φ k) → MeetsNode bs (ParentIn nodes) (CalledIn spelled alike nodes) n (φ k)
         by_test (star e) r = inl e
         by_test (name e) r = by_label e r
 
@@ -90,22 +91,22 @@ module _ {L : Type 0} (same : L → L → Bool) (spelled : L → List ℕ) (alik
         subst (λ (z : RuleNode). Across (ChildIn nodes) z.edge (φ z.parent) (φ k)) (rule_at ns k n h)
         (m.edges k pos (within k n h))
 
-  embeds : v < length nodes → Mapping bs (ParentIn nodes) (CalledIn spelled alike nodes) ns φ → φ 0 ≡ v → Embedding (rule_nodes_of ns) (ChildIn nodes) (MeetsIn same (rule_nodes_of ns) labels nodes) v φ
+  embeds : v < length nodes → Mapping bs (ParentIn nodes) (CalledIn spelled alike nodes) ns φ → φ 0 ≡ v → Embedding (plain_nodes ns) (ChildIn nodes) (MeetsIn same (plain_nodes ns) labels nodes) v φ
   embeds inside l r = record { root = r; tests = tests; edges = edge_at }
     where
-      node_at : (k : ℕ) → k < length (rule_nodes_of ns) → (n : ParsedNode) × (slice_get ns k ≡ Some n)
+      node_at : (k : ℕ) → k < length (plain_nodes ns) → (n : ParsedNode) × (slice_get ns k ≡ Some n)
       node_at k h = some_at ns k (omega (arith, length-map ns plain))
 
-      edge_at : (k : ℕ) → 0 < k → k < length (rule_nodes_of ns) → Across (ChildIn nodes) (edge_of (rule_nodes_of ns) k) (φ (parent_of (rule_nodes_of ns) k)) (φ k)
+      edge_at : (k : ℕ) → 0 < k → k < length (plain_nodes ns) → Across (ChildIn nodes) (edge_of (plain_nodes ns) k) (φ (parent_of (plain_nodes ns) k)) (φ k)
       edge_at k pos h =
           let n = node_at k h in
           subst (λ (z : RuleNode). Across (ChildIn nodes) z.edge (φ z.parent) (φ k)) (sym (rule_at ns k n.0 n.1)) (l.edges k n.0 n.1 pos)
 
-      image : (k : ℕ) → k < length (rule_nodes_of ns) → (p : Option ℕ) × (a : L) × (slice_get nodes (φ k) ≡ Some (p, a))
+      image : (k : ℕ) → k < length (plain_nodes ns) → (p : Option ℕ) × (a : L) × (slice_get nodes (φ k) ≡ Some (p, a))
       image zero h = let s = some_at nodes v inside in (s.0.0, s.0.1, ap (slice_get nodes) r ∙ s.1)
       image (suc k) h = node_across nodes _ _ _ (edge_at (suc k) (omega arith) h)
 
-      tests : (k : ℕ) → k < length (rule_nodes_of ns) → MeetsIn same (rule_nodes_of ns) labels nodes k (φ k)
+      tests : (k : ℕ) → k < length (plain_nodes ns) → MeetsIn same (plain_nodes ns) labels nodes k (φ k)
       tests k h =
           let n = node_at k h in
           let i = image k h in
@@ -118,7 +119,7 @@ module _ {L : Type 0} (same : L → L → Bool) (spelled : L → List ℕ) (alik
 text_selects : {L : Type 0} (same : L → L → Bool) (spelled : L → List ℕ) (alike : List ℕ → List ℕ → Bool) (tied : (a b : L) → same a b ≡ alike (spelled a) (spelled b))
     (bs : List ℕ) (ts : List Token) (ns : List ParsedNode) (d : Text ts ns) (before labels : List L) → NamesIn spelled bs ns before labels
     → (nodes : Nodes L) → ParentsFirst nodes → (v : ℕ) → v < length nodes
-    → Selected (ParentIn nodes) (CalledIn spelled alike nodes) (expression bs d) v ↔ OccursIn same (rule_nodes_of ns) labels nodes v
+    → Selected (ParentIn nodes) (CalledIn spelled alike nodes) (expression bs d) v ↔ OccursIn same (plain_nodes ns) labels nodes v
 text_selects same spelled alike tied bs ts ns d before labels names nodes parents v within = (
   (λ s.
       let r = selected_maps bs (ParentIn nodes) (CalledIn spelled alike nodes) d v s in
@@ -136,18 +137,18 @@ text_selects same spelled alike tied bs ts ns d before labels names nodes parent
 
 -- whichever way the text is derived
 selects_alike : {L : Type 0} (same : L → L → Bool) (spelled : L → List ℕ) (alike : List ℕ → List ℕ → Bool) → ((a b : L) → same a b ≡ alike (spelled a) (spelled b)) → (bs : List ℕ) (ts : List Token) (ns : List ParsedNode)
-    → Lexes 0 bs ts → Text ts ns → (before labels : List L) → NamesIn spelled bs ns before labels → SelectsAlike same spelled alike bs (rule_nodes_of ns) labels
+    → Lexes 0 bs ts → Text ts ns → (before labels : List L) → NamesIn spelled bs ns before labels → SelectsAlike same spelled alike bs (plain_nodes ns) labels
 selects_alike {L} same spelled alike tied bs ts ns l d before labels names p (stands_for {ts = us} {ns = ms} k e) nodes parents v within =
     let q : us ≡ ts = unique k ∙ sym (unique l) in
     let r : to (ended ms) ≡ to (ended ns) = sym (complete e) ∙ ap (λ (x : List Token). moves x (to start)) q ∙ complete d in
     let s : ms ≡ ns = cc in
-    subst (λ (x : List ParsedNode). Selected (ParentIn nodes) (CalledIn spelled alike nodes) (expression bs e) v ↔ OccursIn same (rule_nodes_of x) labels nodes v) s
+    subst (λ (x : List ParsedNode). Selected (ParentIn nodes) (CalledIn spelled alike nodes) (expression bs e) v ↔ OccursIn same (plain_nodes x) labels nodes v) s
     (text_selects same spelled alike tied bs us ms e before labels (subst (λ (x : List ParsedNode). NamesIn spelled bs x before labels) (sym s) names) nodes parents v within)
 
 -- a rule text with the rule nodes that it gives, and their names in a list of labels
 pub text_selects_alike : (L : Type 0) (same : L → L → Bool) (spelled : L → List ℕ) (alike : List ℕ → List ℕ → Bool) → ((a b : L) → same a b ≡ alike (spelled a) (spelled b))
     → (bs : List ℕ) (ns : List ParsedNode) (before labels : List L) → TextGives bs ns → NamesIn spelled bs ns before labels
-    → ((p : LocationPath) × TextStandsFor bs p) × SelectsAlike same spelled alike bs (rule_nodes_of ns) labels
+    → ((p : LocationPath) × TextStandsFor bs p) × SelectsAlike same spelled alike bs (plain_nodes ns) labels
 text_selects_alike L same spelled alike tied bs ns before labels (gives {ts = ts} f l a) names =
     ((expression bs a.formed, stands_for l a.formed), selects_alike same spelled alike tied bs ts ns l a.formed before labels names)
 

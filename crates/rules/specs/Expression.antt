@@ -58,17 +58,6 @@ module _ (bs : List ℕ) where
   abbrev pub expression : {ts : List Token} {ns : List ParsedNode} → Text ts ns → LocationPath
   expression (text d s e) = first anywhere (only (step_of s))
 
--- the rule nodes without their places in the text
-abbrev pub is_star : Kind → Bool
-is_star Star = true
-is_star _ = false
-
-abbrev pub plain : ParsedNode → RuleNode
-plain n = record { parent = n.parent; edge = n.edge; any = is_star n.test.kind }
-
-abbrev pub rule_nodes_of : List ParsedNode → List RuleNode
-rule_nodes_of ns = map plain ns
-
 -- a listing: the parent of a node, and its name, where alike says which spellings are equal
 abbrev pub ParentIn : {L : Type 0} → Nodes L → Context → ℕ → Type 0
 ParentIn {L} nodes c v = (l : L) × (slice_get nodes v ≡ Some (c, l))

@@ -10,7 +10,7 @@ use Rattle.rules.specs.declared.syntax.ParsedNode.{ParsedNode}
 use Rattle.rules.specs.Lexing.{a_token}
 use Rattle.rules.specs.Grammar.{node}
 use Rattle.rules.specs.Limits.{node_limit, bracket_limit}
-use Rattle.labels.specs.Spelling.{white, starts, inside, name_limit}
+use Rattle.labels.specs.Spelling.{is_white, starts_name, continues_name, name_limit}
 
 -- What was read last. n is the step to which what follows belongs, outer are the steps with open
 -- predicates, ns the rule nodes so far.
@@ -143,7 +143,7 @@ second (c ∷ cs) = cond (c == 47) 1 0
 -- how many bytes at the front may stand inside a name
 abbrev pub span : List ℕ → ℕ
 span [] = 0
-span (c ∷ cs) = elim (inside c) [ true ↦ suc (span cs) | false ↦ 0 ]
+span (c ∷ cs) = elim (continues_name c) [ true ↦ suc (span cs) | false ↦ 0 ]
 
 -- the kind of a byte that is a token by itself
 abbrev pub mark : ℕ → Kind
@@ -151,15 +151,15 @@ mark b = cond (b == 46) Dot (cond (b == 91) Open (cond (b == 93) Close (cond (b 
 
 -- the kind of the token at the front of b ∷ bs, and how many bytes it has behind b
 abbrev pub kind_of : ℕ → List ℕ → Kind
-kind_of b bs = cond (starts b) Name (cond (b == 47) (slashes bs) (mark b))
+kind_of b bs = cond (starts_name b) Name (cond (b == 47) (slashes bs) (mark b))
 
 abbrev pub extra : ℕ → List ℕ → ℕ
-extra b bs = cond (starts b) (span bs) (cond (b == 47) (second bs) 0)
+extra b bs = cond (starts_name b) (span bs) (cond (b == 47) (second bs) 0)
 
 -- the tokens from the place p on, where the first `skip` bytes belong to the token before
 abbrev pub lex : ℕ → ℕ → List ℕ → List Token
 lex skip p [] = a_token End p 0 ∷ []
-lex zero p (b ∷ bs) = elim (white b) [ true ↦ lex 0 (p + 1) bs | false ↦ a_token (kind_of b bs) p (extra b bs + 1) ∷ lex (extra b bs) (p + 1) bs ]
+lex zero p (b ∷ bs) = elim (is_white b) [ true ↦ lex 0 (p + 1) bs | false ↦ a_token (kind_of b bs) p (extra b bs + 1) ∷ lex (extra b bs) (p + 1) bs ]
 lex (suc k) p (b ∷ bs) = lex k (p + 1) bs
 
 abbrev pub from : List ℕ → ℕ → List Token

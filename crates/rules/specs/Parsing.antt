@@ -9,12 +9,12 @@ use Rattle.rules.specs.Refusals.{number_and_place}
 use Rattle.rules.specs.Texts.{TextGives, TextRefused}
 
 -- the test of a rule node stands in the bytes, and a name is not too long
-abbrev pub Lies : List ℕ → ParsedNode → Type 0
-Lies bs n = (n.test.place + n.test.len ≤ length bs) × (n.test.kind ≡ Name → n.test.len ≤ name_limit)
+abbrev pub InText : List ℕ → ParsedNode → Type 0
+InText bs n = (n.test.place + n.test.len ≤ length bs) × (n.test.kind ≡ Name → n.test.len ≤ name_limit)
 
 pub record Parses (bs : List ℕ) (ns : List ParsedNode) : Type 0 where
   pub reads : TextGives bs ns
-  pub lie : AllByRecursion (Lies bs) ns
+  pub in_text : AllByRecursion (InText bs) ns
 
 abbrev pub ParseFails : List ℕ → TextRefusal → Type 0
 ParseFails bs f = TextRefused bs (number_and_place f)

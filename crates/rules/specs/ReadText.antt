@@ -4,9 +4,9 @@ use Rattle.rules.specs.declared.syntax.Kind.TheVariants.{Name}
 use Rattle.rules.specs.declared.syntax.ParsedNode.{ParsedNode}
 use Rattle.rules.specs.declared.refusal.TextRefusal.{TextRefusal}
 use Rattle.rules.specs.declared.rule.Rule.{Rule}
-use Rattle.rules.specs.RuleNodes.{rule_nodes}
+use Rattle.rules.specs.RuleNodes.{rule_nodes, plain_nodes}
 use Rattle.rules.specs.XPath.{LocationPath}
-use Rattle.rules.specs.Expression.{token_bytes, rule_nodes_of, TextStandsFor, SelectsAlike}
+use Rattle.rules.specs.Expression.{token_bytes, TextStandsFor, SelectsAlike}
 use Rattle.rules.specs.Refusals.{number_and_place}
 use Rattle.labels.specs.Exact.{Sole}
 use Rattle.rules.specs.Texts.{TextGives, TextRefused}
@@ -41,7 +41,7 @@ OnlyRefused bs entries f = Sole (ReadingRefused bs entries) (ReadingGives bs ent
 pub record ReadInto {N : Type 0} (same : N → N → Bool) (spelled : N → List ℕ) (alike : List ℕ → List ℕ → Bool) (bs : List ℕ) (rule : Rule) (before after : List N) : Type 0 where
   pub nodes : List ParsedNode
   pub accepted : OnlyGives bs (length before) nodes
-  pub rule_is : rule_nodes rule ≡ rule_nodes_of nodes
+  pub rule_is : rule_nodes rule ≡ plain_nodes nodes
   pub names : NamesIn spelled bs nodes before after
   pub expression : LocationPath
   pub stands : TextStandsFor bs expression

@@ -64,14 +64,14 @@ pub data RecordReason (bs : List ℕ) : ℕ × Option ℕ → Type 0 where
   bad : {k i : ℕ} → Whole bs k → i < k → ((j : ℕ) → j < i → (n : RuleNode) × RecordAt bs j n) → BadAt bs i → RecordReason bs (16, Some i)
 
 -- The rule has the rule nodes of the records. They have no others, and there is no reason to refuse them.
-abbrev pub SetFrom : List ℕ → Rule → Type 0
-SetFrom bs rule = Sole (Recorded bs) (RecordReason bs) (rule_nodes rule)
+abbrev pub OnlySet : List ℕ → Rule → Type 0
+OnlySet bs rule = Sole (Recorded bs) (RecordReason bs) (rule_nodes rule)
 
 -- There is this reason to refuse the bytes, and no other, and they are the records of no rule.
-abbrev pub Unsettable : List ℕ → RecordRefusal → Type 0
-Unsettable bs f = Sole (RecordReason bs) (Recorded bs) (number_and_record f)
+abbrev pub OnlyUnset : List ℕ → RecordRefusal → Type 0
+OnlyUnset bs f = Sole (RecordReason bs) (Recorded bs) (number_and_record f)
 
 -- a refusal alters nothing
 pub record Unset (bs : List ℕ) (f : RecordRefusal) (rule rule' : Rule) : Type 0 where
-  pub unsettable : Unsettable bs f
+  pub unsettable : OnlyUnset bs f
   pub rule_same : rule' ≡ rule

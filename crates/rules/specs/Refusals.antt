@@ -1,7 +1,7 @@
 -- The refusals of rule texts and of records, by their numbers and values.
 use Rattle.std.specs.Prelude.{ℕ, List, Some, None, Option}
 use Rattle.std.specs.Fmt.{decimal}
-use Rattle.labels.specs.Printed.{number_at}
+use Rattle.labels.specs.Printed.{number_at, number_in_record}
 use Rattle.rules.specs.declared.refusal.RecordRefusal.{RecordRefusal}
 use Rattle.rules.specs.declared.refusal.RecordRefusal.TheVariants.{Size, Bad}
 use Rattle.rules.specs.declared.refusal.TextRefusal.{TextRefusal}
@@ -42,7 +42,7 @@ printed_text f = number_at (number f) (place f)
 -- the number, at the record if it names one
 abbrev pub printed_number : ℕ × Option ℕ → List ℕ
 printed_number (k, None) = decimal k
-printed_number (k, Some i) = number_at k i
+printed_number (k, Some i) = number_in_record k i
 
 abbrev pub printed_record : RecordRefusal → List ℕ
 printed_record f = printed_number (number_and_record f)

@@ -2,12 +2,12 @@
 ghost use Rattle.std.specs.Prelude.{◌≤◌, length, MatchResult};
 ghost use Rattle.std.specs.List.{AllByRecursion};
 ghost use Rattle.std.proofs.Props.{props};
-ghost use Rattle.rules.specs.Parsing.{Lies, Parses, ParseFails};
+ghost use Rattle.rules.specs.Parsing.{InText, Parses, ParseFails};
 
 use crate::lexer::next_token;
 use crate::node::Edge;
 use crate::refusal::TextRefusal;
-use crate::rule::RULE_NODES;
+use crate::rule::NODE_LIMIT;
 use crate::syntax::{Kind, ParsedNode, Token};
 use arrayvec::ArrayVec;
 use labels::spelling::NAME_LIMIT;
@@ -23,9 +23,9 @@ const BRACKET_LIMIT: usize = 16;
 struct Reader<'a> {
     text: &'a [u8],
     at: usize,
-    nodes: ArrayVec<ParsedNode, RULE_NODES>,
+    nodes: ArrayVec<ParsedNode, NODE_LIMIT>,
     ghost within: { at ≤ length text.now },
-    ghost lie: { AllByRecursion (Lies text.now) nodes.items } by { Prim.hlevel props },
+    ghost in_text: { AllByRecursion (InText text.now) nodes.items } by { Prim.hlevel props },
 }
 
 impl<'a> Reader<'a> {
@@ -159,7 +159,7 @@ impl<'a> Reader<'a> {
 
 /// The rule nodes of a rule text, in order, with their tests.
 #[tactic(auto, using(crate::proofs::Going::empty_fails, crate::proofs::Going::long_fails, crate::proofs::Going::start_fails, crate::proofs::Going::step_fails, crate::proofs::Going::stepped, crate::proofs::Going::end_fails))]
-pub fn parse(text: &[u8]) -> Result<ArrayVec<ParsedNode, RULE_NODES>, TextRefusal>
+pub fn parse(text: &[u8]) -> Result<ArrayVec<ParsedNode, NODE_LIMIT>, TextRefusal>
     ensures { MatchResult result (λ p. Parses text.now p.items) (ParseFails text.now) }
 {
     if text.is_empty() || text.len() > TEXT_LIMIT {

@@ -1,20 +1,34 @@
 //! Rules from records.
-ghost use Rattle.std.specs.Prelude.{Bool, Decides, MatchOption, MatchResult};
+ghost use Rattle.std.specs.Prelude.{Bool, Decides, MatchOption, MatchResult, Some};
+ghost use Rattle.std.specs.Fmt.{decimal};
 ghost use Rattle.rules.specs.declared.node.RuleNode.{RuleNode};
-ghost use Rattle.rules.specs.Records.{EdgeFrom, AnyByte, Hangs, RecordWrites, SetFrom, Unsettable, Unset};
+ghost use Rattle.rules.specs.Records.{EdgeFrom, AnyByte, Hangs, RecordWrites, OnlySet, OnlyUnset, Unset};
 
 use crate::node::{Edge, RuleNode};
 use crate::refusal::RecordRefusal;
-use crate::rule::{RULE_NODES, Rule};
+use crate::rule::{NODE_LIMIT, Rule};
+use std::error::Error;
+use std::fmt;
 
 // The bytes of a record: parent, edge, any.
-const RECORD: usize = 3;
+const RECORD_LEN: usize = 3;
 
 /// A byte that means no edge.
 #[derive(Clone, Copy, PartialEq, Eq, Debug)]
 pub struct UnknownEdge(pub u8);
 
-// The edge to the parent.
+/// The byte.
+impl fmt::Display for UnknownEdge {
+    ghost output = { λ unknown. Some (decimal unknown.0) };
+
+    fn fmt<W: fmt::Write>(&self, f: &mut fmt::Formatter<W>) -> fmt::Result {
+        write!(f, "{}", self.0)
+    }
+}
+
+impl Error for UnknownEdge {}
+
+/// The edge that a record's byte means: 0 child, 1 descendant.
 impl TryFrom<u8> for Edge {
     type Error = UnknownEdge;
 
@@ -30,7 +44,7 @@ impl TryFrom<u8> for Edge {
 }
 
 // Whether the test is any, unless the byte means neither. A function, since neither type is of this crate.
-fn any_of(byte: u8) -> Option<bool>
+fn any_from(byte: u8) -> Option<bool>
     ensures { MatchOption result ((any : Bool) → AnyByte byte any → ⊥) (AnyByte byte) }
 {
     match byte {
@@ -52,13 +66,13 @@ fn hangs(number: usize, parent: usize, edge: Edge) -> bool
 }
 
 // The rule node with this number that the record writes, unless it writes none.
-fn node_of(number: usize, bytes: &[u8; RECORD]) -> Option<RuleNode>
+fn node_of(number: usize, bytes: &[u8; RECORD_LEN]) -> Option<RuleNode>
     ensures { MatchOption result ((n : RuleNode) → RecordWrites number bytes.now n → ⊥) (RecordWrites number bytes.now) }
 {
     let [parent, edge, any] = *bytes;
     let parent = usize::from(parent);
     let edge = Edge::try_from(edge).ok()?;
-    let any = any_of(any)?;
+    let any = any_from(any)?;
     if hangs(number, parent, edge) {
         Some(RuleNode { parent, edge, any })
     } else {
@@ -68,15 +82,15 @@ fn node_of(number: usize, bytes: &[u8; RECORD]) -> Option<RuleNode>
 
 // The rule that the records write.
 fn rule_from(bytes: &[u8]) -> Result<Rule, RecordRefusal>
-    ensures { MatchResult result (SetFrom bytes.now) (Unsettable bytes.now) }
+    ensures { MatchResult result (OnlySet bytes.now) (OnlyUnset bytes.now) }
 {
-    let (records, rest) = bytes.as_chunks::<RECORD>();
+    let (records, rest) = bytes.as_chunks::<RECORD_LEN>();
     let len = records.len();
-    if !rest.is_empty() || len == 0 || len > RULE_NODES {
+    if !rest.is_empty() || len == 0 || len > NODE_LIMIT {
         return Err(RecordRefusal::Size);
     }
-    let mut nodes = [RuleNode::ANY; RULE_NODES];
-    // By index, for the reason given at `rule_of` of text.rt.
+    let mut nodes = [RuleNode::ANY; NODE_LIMIT];
+    // By index, since the proof goes by the places that are written.
     for (number, record) in records.iter().enumerate() {
         nodes[number] = node_of(number, record).ok_or(RecordRefusal::Bad(number))?;
     }
@@ -87,7 +101,7 @@ impl Rule {
     /// Sets the rule from records of three bytes, in the order of their numbers.
     pub fn set_records(&mut self, bytes: &[u8]) -> Result<(), RecordRefusal>
         ensures { MatchResult result
-            (λ _. SetFrom bytes.now self.new)
+            (λ _. OnlySet bytes.now self.new)
             (λ f. Unset bytes.now f self.old self.new) }
     {
         *self = rule_from(bytes)?;

@@ -8,11 +8,17 @@ use std::fmt;
 /// Why a rule text is refused, with the place.
 #[derive(Clone, Copy, PartialEq, Eq, Debug)]
 pub enum TextRefusal {
+    /// The list for names has too few entries.
     ShortList,
+    /// The text has no bytes, or too many.
     Length,
+    /// The token at the place can't stand there in any rule text.
     NotAllowed(usize),
+    /// The name at the place has too many bytes.
     LongName(usize),
+    /// The test at the place is one too many.
     ManyTests(usize),
+    /// The bracket at the place is open inside too many others.
     DeepBracket(usize),
 }
 
@@ -43,7 +49,7 @@ impl TextRefusal {
     }
 }
 
-// The number at the place, as `11 at 5`.
+/// The number at the place, as `11 at 5`.
 impl fmt::Display for TextRefusal {
     ghost output = { λ f. Some (printed_text f) };
 
@@ -81,7 +87,7 @@ impl RecordRefusal {
     }
 }
 
-// The number, and the bad record if there is one, as `16 at 2`.
+/// The number, and the bad record if there is one, as `16, record 2`.
 impl fmt::Display for RecordRefusal {
     ghost output = { λ f. Some (printed_record f) };
 
@@ -89,7 +95,7 @@ impl fmt::Display for RecordRefusal {
         let number = self.number();
         match self.record() {
             None => write!(f, "{number}"),
-            Some(record) => write!(f, "{number} at {record}"),
+            Some(record) => write!(f, "{number}, record {record}"),
         }
     }
 }

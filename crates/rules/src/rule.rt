@@ -6,14 +6,14 @@ ghost use Rattle.rules.specs.Rule.{Rooted, Ordered};
 use crate::node::RuleNode;
 
 /// The rule nodes that a rule has at most.
-pub const RULE_NODES: usize = 64;
+pub const NODE_LIMIT: usize = 64;
 
 /// A rule: 1 to 64 rule nodes. Node 0 is the root, and each parent is numbered below its child. The labels of its tests stand in a list
 /// of their own, by the numbers of the rule nodes, so that a rule serves every kind of labels.
 // An array with a count, since a rule is `Copy` for its callers, and an `ArrayVec` is not.
 #[derive(Clone, Copy)]
 pub struct Rule {
-    pub(crate) nodes: [RuleNode; RULE_NODES],
+    pub(crate) nodes: [RuleNode; NODE_LIMIT],
     pub(crate) len: usize,
     ghost some: { 0 < length (take len nodes) },
     ghost few: { len ≤ node_limit },
@@ -31,7 +31,7 @@ impl Rule {
         ensures { rule_nodes result ≡ any_node ∷ [] }
     {
         Rule {
-            nodes: [RuleNode::ANY; RULE_NODES],
+            nodes: [RuleNode::ANY; NODE_LIMIT],
             len: 1,
         }
     }

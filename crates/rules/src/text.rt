@@ -1,22 +1,22 @@
 //! Rules from rule texts.
 ghost use Rattle.std.specs.Prelude.{◌≡◌, ◌<◌, ◌≤◌, length, MatchResult};
 ghost use Rattle.std.specs.List.{AllByRecursion};
-ghost use Rattle.rules.specs.Parsing.{Lies};
+ghost use Rattle.rules.specs.Parsing.{InText};
 ghost use Rattle.rules.specs.Rule.{Rooted, Ordered};
 ghost use Rattle.rules.specs.RuleNodes.{rule_nodes};
-ghost use Rattle.rules.specs.Expression.{rule_nodes_of};
+ghost use Rattle.rules.specs.RuleNodes.{plain_nodes};
 ghost use Rattle.rules.specs.Limits.{node_limit};
 ghost use Rattle.rules.specs.ReadText.{NamesIn, ReadInto, Unread, OnlyRefused};
 
 use crate::node::RuleNode;
 use crate::reader::parse;
 use crate::refusal::TextRefusal;
-use crate::rule::{RULE_NODES, Rule};
+use crate::rule::{NODE_LIMIT, Rule};
 use crate::syntax::{Kind, ParsedNode};
 use labels::kind::NameLabel;
 
 impl From<ParsedNode> for RuleNode {
-    ghost use Rattle.rules.specs.Expression.{plain};
+    ghost use Rattle.rules.specs.RuleNodes.{plain};
 
     ghost from_gives = { λ n r. r ≡ plain n };
 
@@ -33,11 +33,11 @@ impl From<ParsedNode> for RuleNode {
 fn rule_of(nodes: &[ParsedNode]) -> Rule
     requires some { 0 < length nodes.now }
     requires few { length nodes.now ≤ node_limit }
-    requires rooted { Rooted (rule_nodes_of nodes.now) }
-    requires ordered { Ordered (rule_nodes_of nodes.now) }
-    ensures { rule_nodes result ≡ rule_nodes_of nodes.now }
+    requires rooted { Rooted (plain_nodes nodes.now) }
+    requires ordered { Ordered (plain_nodes nodes.now) }
+    ensures { rule_nodes result ≡ plain_nodes nodes.now }
 {
-    let mut made = [RuleNode::ANY; RULE_NODES];
+    let mut made = [RuleNode::ANY; NODE_LIMIT];
     // By index, since the proof goes by the places that are written.
     for (i, node) in nodes.iter().enumerate() {
         made[i] = RuleNode::from(*node);
@@ -51,15 +51,15 @@ fn rule_of(nodes: &[ParsedNode]) -> Rule
 // Writes the names of the named rule nodes into the list at their numbers.
 fn write_names<N: NameLabel>(text: &[u8], nodes: &[ParsedNode], names: &mut [N])
     requires few { length nodes.now ≤ length names.old }
-    requires lie { AllByRecursion (Lies text.now) nodes.now }
+    requires in_text { AllByRecursion (InText text.now) nodes.now }
     ensures { NamesIn N.spelled text.now nodes.now names.old names.new }
 {
-    // By index, for the reason given in `rule_of`.
+    // By index, since the proof goes by the places that are written.
     for (i, node) in nodes.iter().enumerate() {
         let test = node.test;
         if test.kind == Kind::Name {
             let end = test.place + test.len;
-            names[i] = N::from_name(&text[test.place..end]).unwrap();
+            names[i] = N::from_bytes(&text[test.place..end]).unwrap();
         }
     }
 }
@@ -70,7 +70,7 @@ fn read<N: NameLabel>(text: &[u8], names: &mut [N]) -> Result<Rule, TextRefusal>
         (λ rule. ReadInto N.eq N.spelled N.alike text.now rule names.old names.new)
         (λ f. OnlyRefused text.now (length names.old) f × (names.new ≡ names.old)) }
 {
-    if names.len() < RULE_NODES {
+    if names.len() < NODE_LIMIT {
         return Err(TextRefusal::ShortList);
     }
     let parsed = parse(text)?;

@@ -1,6 +1,6 @@
 -- The faults of a folder table by their numbers and records.
-use Rattle.std.specs.Prelude.{ℕ, List, ◌++◌, codes}
-use Rattle.std.specs.Fmt.{decimal}
+use Rattle.std.specs.Prelude.{ℕ, List}
+use Rattle.labels.specs.Printed.{number_in_record}
 use Rattle.sources.specs.declared.record.TableFault.{TableFault}
 use Rattle.sources.specs.declared.record.TableFault.TheVariants.{WrongDepth}
 
@@ -12,4 +12,4 @@ record_number (WrongDepth n) = n
 
 -- how a fault is printed
 abbrev pub fault_text : TableFault → List ℕ
-fault_text f = decimal (number f) ++ (codes ", record " ++ decimal (record_number f))
+fault_text f = number_in_record (number f) (record_number f)

@@ -1,7 +1,7 @@
 -- What goes by between tags.
 use Rattle.std.proofs.Common.{◌≡◌, ℕ, ◌+◌, Bool, true, false, ◌⊎◌, List, [], ◌∷◌, length, drop, sym, refl, ap, ◌∙◌, subst, inl, inr, arith}
 use Rattle.std.proofs.lemmas.Bool.{both_ways}
-use Rattle.labels.specs.Spelling.{byte, white}
+use Rattle.labels.specs.Spelling.{byte, is_white}
 use Rattle.xml.specs.Faults.{scan_number, scan_place}
 use Rattle.xml.specs.Markup.{markup, IsComment, IsInstruction, CommentFault, InstructionFault}
 use Rattle.xml.specs.Reading.{Found, Finds, FindsAt}
@@ -26,14 +26,14 @@ none_is [] e = refl
 none_is (n ∷ ns) e = let z : ◌≡◌ {A = ℕ} 0 1 = cc in absurd (omega arith)
 
 module _ (xs : List ℕ) (inside : Bool) (p : ℕ) where
-  pub text_by : Text ≡ markup (drop p xs) → ((inside ≡ true) ⊎ (white (byte xs p) ≡ true)) → GoesBy xs inside p (p + 1)
+  pub text_by : Text ≡ markup (drop p xs) → ((inside ≡ true) ⊎ (is_white (byte xs p) ≡ true)) → GoesBy xs inside p (p + 1)
   text_by e h names rooted i = found xs p names rooted Text _ e (text (λ nil. go nil h))
     where
-      go : names ≡ [] → ((inside ≡ true) ⊎ (white (byte xs p) ≡ true)) → white (byte xs p) ≡ true
+      go : names ≡ [] → ((inside ≡ true) ⊎ (is_white (byte xs p) ≡ true)) → is_white (byte xs p) ≡ true
       go nil (inl t) = absurd (both_ways (some names) (ap some nil) (i ∙ t))
       go nil (inr w) = w
 
-  pub text_no : Text ≡ markup (drop p xs) → inside ≡ false → white (byte xs p) ≡ false → Refused xs inside p (Scan (Byte p))
+  pub text_no : Text ≡ markup (drop p xs) → inside ≡ false → is_white (byte xs p) ≡ false → Refused xs inside p (Scan (Byte p))
   text_no e f w names rooted i = found xs p names rooted Text _ e (no_text (none_is names (i ∙ f)) w)
 
   pub comment_by : (q : ℕ) → Comment ≡ markup (drop p xs) → IsComment xs p q → GoesBy xs inside p q

@@ -2,7 +2,7 @@
 use Rattle.std.specs.Option.{MatchOption, unwrap_or}
 use Rattle.std.proofs.Common.{◌≡◌, ℕ, ◌+◌, ◌<◌, ◌≤◌, Bool, true, false, ◌||◌, eqb, List, length, Some, None, MatchResult, Option, Result, sym, subst, arith}
 use Rattle.std.proofs.lemmas.Result.{MatchResult-weaker}
-use Rattle.labels.specs.Spelling.{byte, white, Longest}
+use Rattle.labels.specs.Spelling.{byte, is_white, Longest}
 use Rattle.xml.specs.Bytes.{plain}
 use Rattle.xml.specs.Markup.{TagEnds, EndEnds, TagFault, EndFault}
 use Rattle.xml.specs.Markup.TagFault.{slash_ended, slash_byte, unclosed, opened}
@@ -36,7 +36,7 @@ module _ (xs : List ℕ) (n : ℕ) (r : Result ℕ ScanFault) where
       bad (End c) (w, e) = subst (TagFault xs n 31) (sym e) (slash_ended s w)
       bad (LongName c) h = absurd h
 
-  pub bracket_closes : (white (byte xs n) || eqb (byte xs n) 62) ≡ true → (p : ℕ) → Longest (λ i. plain (byte xs i)) (length xs) n p →
+  pub bracket_closes : (is_white (byte xs n) || eqb (byte xs n) 62) ≡ true → (p : ℕ) → Longest (λ i. plain (byte xs i)) (length xs) n p →
       Closes xs p r → MatchResult r (TagEnds xs n) (Told (TagFault xs n))
   bracket_closes a p l h = MatchResult-weaker r h good bad
     where
@@ -51,7 +51,7 @@ module _ (xs : List ℕ) (n : ℕ) (r : Result ℕ ScanFault) where
           subst (TagFault xs n 31) (sym e) (unclosed a (subst (Longest (λ i. plain (byte xs i)) (length xs) n) g l))
       bad (LongName c) h = absurd h
 
-  pub white_closes : (p : ℕ) → Longest (λ i. white (byte xs i)) (length xs) n p → Closes xs p r → MatchResult r (EndEnds xs n) (Told (EndFault xs n))
+  pub white_closes : (p : ℕ) → Longest (λ i. is_white (byte xs i)) (length xs) n p → Closes xs p r → MatchResult r (EndEnds xs n) (Told (EndFault xs n))
   white_closes p l h = MatchResult-weaker r h good bad
     where
       good : (c : ℕ) → (c ≡ p) × (byte xs p ≡ 62) → EndEnds xs n c
@@ -62,5 +62,5 @@ module _ (xs : List ℕ) (n : ℕ) (r : Result ℕ ScanFault) where
       bad (End c) (w, e) =
           let within = l.within in
           let g : p ≡ length xs = omega arith in
-          subst (EndFault xs n 31) (sym e) (ended (subst (Longest (λ i. white (byte xs i)) (length xs) n) g l))
+          subst (EndFault xs n 31) (sym e) (ended (subst (Longest (λ i. is_white (byte xs i)) (length xs) n) g l))
       bad (LongName c) h = absurd h

@@ -4,7 +4,7 @@ use Rattle.std.proofs.lemmas.List.{append_assoc, append-nil, drop_all}
 use Rattle.std.proofs.lemmas.Bool.{both_ways}
 use Rattle.sources.specs.declared.event.Event.{Event}
 use Rattle.sources.specs.declared.event.Event.TheVariants.{Open, Close}
-use Rattle.labels.specs.Spelling.{byte, part, white, starts}
+use Rattle.labels.specs.Spelling.{byte, part, is_white, starts_name}
 use Rattle.xml.specs.Markup.{markup, behind, two_dashes, IsComment, IsInstruction, IsStart, IsEnd}
 use Rattle.xml.specs.Shapes.{reaches}
 use Rattle.xml.specs.Reading.{levels, Room, Finds, Reads}
@@ -62,7 +62,7 @@ module _ (xs : List ℕ) where
 -- from the reading to the grammar
 behind_some : (bs : List ℕ) → behind bs ≡ Nothing → ⊥
 behind_some [] e = let z : ◌≡◌ {A = ℕ} 0 1 = cc in omega arith
-behind_some (b ∷ bs) e = go (eqb b 47) (eqb b 33) (two_dashes bs) (eqb b 63) (starts b) e
+behind_some (b ∷ bs) e = go (eqb b 47) (eqb b 33) (two_dashes bs) (eqb b 63) (starts_name b) e
   where
     go : (t₁ t₂ t₃ t₄ t₅ : Bool) → cond t₁ EndTag (cond t₂ (cond t₃ Comment Declaration) (cond t₄ Instruction (cond t₅ StartTag Stray))) ≡ Nothing → ⊥
     go true t₂ t₃ t₄ t₅ e = let z : ◌≡◌ {A = ℕ} 0 1 = cc in omega arith
@@ -82,7 +82,7 @@ markup_none (b ∷ bs) e = absurd (go (eqb b 60) e)
 
 -- what was found, by the markup
 data Skipped (xs : List ℕ) (p q : ℕ) (names : List (List ℕ)) : Type 0 where
-  by_text : Begins xs p Text → q ≡ p + 1 → (names ≡ [] → white (byte xs p) ≡ true) → Skipped xs p q names
+  by_text : Begins xs p Text → q ≡ p + 1 → (names ≡ [] → is_white (byte xs p) ≡ true) → Skipped xs p q names
   by_comment : Begins xs p Comment → IsComment xs p q → Skipped xs p q names
   by_instruction : Begins xs p Instruction → IsInstruction xs p q → Skipped xs p q names
 

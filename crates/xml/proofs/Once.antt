@@ -4,7 +4,7 @@ use Rattle.std.proofs.lemmas.List.{get_or_past}
 use Rattle.std.proofs.lemmas.Bool.{cases_lt, cases_order, ne_eqb, eq-eqb, lt-ltb, le-ltb, or_parts, or_from, both_ways}
 use Rattle.sources.specs.declared.event.Event.{Event}
 use Rattle.sources.specs.declared.event.Event.TheVariants.{Open, Close}
-use Rattle.labels.specs.Spelling.{byte, part, white, starts, Longest, Named, Spelled}
+use Rattle.labels.specs.Spelling.{byte, part, is_white, starts_name, Longest, Named, Spelled}
 use Rattle.xml.specs.Bytes.{plain}
 use Rattle.xml.specs.Faults.{number, place}
 use Rattle.xml.specs.Markup.{TagEnds, EndEnds, IsComment, IsInstruction, IsStart, IsEnd, NameFault, CommentFault, InstructionFault, StartFault, TagFault, EndFault}
@@ -52,18 +52,18 @@ module _ (xs : List ℕ) where
   name_same p q r a b = longest_same _ _ p q r a.ends b.ends
 
   name_apart : (p n k at : ℕ) → Spelled xs p n → NameFault xs p k at → ⊥
-  name_apart p n k at s (name_ended h) = let l = test_stands xs p starts refl s.0.begins in omega arith
+  name_apart p n k at s (name_ended h) = let l = test_stands xs p starts_name refl s.0.begins in omega arith
   name_apart p n k at s (no_start h e) = both_ways _ e s.0.begins
   name_apart p n k at s (long q d h) = let e = name_same p q n d s.0 in let w = s.1 in omega arith
 
   name_fault_same : (p k at j to : ℕ) → NameFault xs p k at → NameFault xs p j to → refuses k at ≡ refuses j to
   name_fault_same p k at j to (name_ended h) (name_ended g) = refl
   name_fault_same p k at j to (name_ended h) (no_start g e) = absurd (omega arith)
-  name_fault_same p k at j to (name_ended h) (long q d g) = let l = test_stands xs p starts refl d.begins in absurd (omega arith)
+  name_fault_same p k at j to (name_ended h) (long q d g) = let l = test_stands xs p starts_name refl d.begins in absurd (omega arith)
   name_fault_same p k at j to (no_start h e) (name_ended g) = absurd (omega arith)
   name_fault_same p k at j to (no_start h e) (no_start g f) = refl
   name_fault_same p k at j to (no_start h e) (long q d g) = absurd (both_ways _ e d.begins)
-  name_fault_same p k at j to (long q d h) (name_ended g) = let l = test_stands xs p starts refl d.begins in absurd (omega arith)
+  name_fault_same p k at j to (long q d h) (name_ended g) = let l = test_stands xs p starts_name refl d.begins in absurd (omega arith)
   name_fault_same p k at j to (long q d h) (no_start g e) = absurd (both_ways _ e d.begins)
   name_fault_same p k at j to (long q d h) (long r f g) = refl
 
@@ -118,7 +118,7 @@ module _ (xs : List ℕ) where
   tag_same n q r a b = longest_same _ _ n q r a.rest b.rest
 
   tag_apart : (n q k at : ℕ) → TagEnds xs n q → TagFault xs n k at → ⊥
-  tag_apart n q k at a (tag_ended h) = let l = test_stands xs n (λ b. white b || (eqb b 47 || eqb b 62)) refl a.after in omega arith
+  tag_apart n q k at a (tag_ended h) = let l = test_stands xs n (λ b. is_white b || (eqb b 47 || eqb b 62)) refl a.after in omega arith
   tag_apart n q k at a (tag_byte h e) = both_ways _ e a.after
   tag_apart n q k at a (slash_ended s h) =
       let e = a.slash s in
@@ -139,13 +139,13 @@ module _ (xs : List ℕ) where
   tag_code n c =
       cond (ltb n (length xs))
       (cond (eqb (byte xs n) 47) (cond (ltb (n + 1) (length xs)) (refuses 30 (n + 1)) (refuses 31 (length xs)))
-      (cond (white (byte xs n) || eqb (byte xs n) 62) (cond (ltb c (length xs)) (refuses 30 c) (refuses 31 (length xs))) (refuses 30 n)))
+      (cond (is_white (byte xs n) || eqb (byte xs n) 62) (cond (ltb c (length xs)) (refuses 30 c) (refuses 31 (length xs))) (refuses 30 n)))
       (refuses 31 (length xs))
 
   tag_coded : (n c k at : ℕ) → Longest (λ i. plain (byte xs i)) (length xs) n c → TagFault xs n k at → refuses k at ≡ tag_code n c
   tag_coded n c k at m (tag_ended h) = rw (le-ltb n (length xs) h)
   tag_coded n c k at m (tag_byte h e) =
-      let o = or_parts (white (byte xs n)) (eqb (byte xs n) 47 || eqb (byte xs n) 62) e in
+      let o = or_parts (is_white (byte xs n)) (eqb (byte xs n) 47 || eqb (byte xs n) 62) e in
       let u = or_parts (eqb (byte xs n) 47) (eqb (byte xs n) 62) o.1 in
       rw (lt-ltb n (length xs) h, u.0, or_from _ _ o.0 u.1)
   tag_coded n c k at m (slash_ended s h) =
@@ -155,22 +155,22 @@ module _ (xs : List ℕ) where
       let l : n < length xs = omega arith in
       rw (lt-ltb n (length xs) l, eq-eqb (byte xs n) 47 s, lt-ltb (n + 1) (length xs) h)
   tag_coded n c k at m (unclosed b l) =
-      let w = test_stands xs n (λ b. white b || eqb b 62) refl b in
+      let w = test_stands xs n (λ b. is_white b || eqb b 62) refl b in
       let e = longest_same _ _ n c (length xs) m l in
       let f : length xs ≤ c = omega arith in
       rw (lt-ltb n (length xs) w, no_47 (byte xs n) b, b, le-ltb c (length xs) f)
     where
-      no_47 : (b : ℕ) → (white b || eqb b 62) ≡ true → eqb b 47 ≡ false
-      no_47 b h = ne_eqb b 47 (λ e. both_ways _ refl (sym (ap (λ x. white x || eqb x 62) e) ∙ h))
+      no_47 : (b : ℕ) → (is_white b || eqb b 62) ≡ true → eqb b 47 ≡ false
+      no_47 b h = ne_eqb b 47 (λ e. both_ways _ refl (sym (ap (λ x. is_white x || eqb x 62) e) ∙ h))
   tag_coded n c k at m (bracket_opened d b l f) =
-      let w = test_stands xs n (λ b. white b || eqb b 62) refl b in
+      let w = test_stands xs n (λ b. is_white b || eqb b 62) refl b in
       let e = longest_same _ _ n c d m l in
       let g = standing xs d 60 f (omega arith) in
       let in_it : c < length xs = omega arith in
       rw (lt-ltb n (length xs) w, no_47 (byte xs n) b, b, lt-ltb c (length xs) in_it) (ap (refuses 30) (sym e))
     where
-      no_47 : (b : ℕ) → (white b || eqb b 62) ≡ true → eqb b 47 ≡ false
-      no_47 b h = ne_eqb b 47 (λ e. both_ways _ refl (sym (ap (λ x. white x || eqb x 62) e) ∙ h))
+      no_47 : (b : ℕ) → (is_white b || eqb b 62) ≡ true → eqb b 47 ≡ false
+      no_47 b h = ne_eqb b 47 (λ e. both_ways _ refl (sym (ap (λ x. is_white x || eqb x 62) e) ∙ h))
 
   tag_fault_same : (n k at j to : ℕ) → n ≤ length xs → TagFault xs n k at → TagFault xs n j to → refuses k at ≡ refuses j to
   tag_fault_same n k at j to h a b =

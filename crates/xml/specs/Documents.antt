@@ -2,7 +2,7 @@
 use Rattle.std.specs.Prelude.{◌≡◌, ℕ, suc, ◌+◌, ◌<◌, true, false, List, [], ◌∷◌, ◌++◌, length, drop}
 use Rattle.sources.specs.declared.event.Event.{Event}
 use Rattle.sources.specs.declared.event.Event.TheVariants.{Open, Close}
-use Rattle.labels.specs.Spelling.{byte, part, white}
+use Rattle.labels.specs.Spelling.{byte, part, is_white}
 use Rattle.xml.specs.Markup.{markup, IsComment, IsInstruction, IsStart, IsEnd}
 use Rattle.xml.specs.Reading.{levels}
 use Rattle.xml.specs.declared.fault.Markup.{Markup}
@@ -14,7 +14,7 @@ Begins xs p k = markup (drop p xs) ≡ k
 -- white space, comments and instructions outside the root
 pub data Outside (xs : List ℕ) : ℕ → ℕ → Type 0 where
   none : {p : ℕ} → Outside xs p p
-  space : {p q : ℕ} → Begins xs p Text → white (byte xs p) ≡ true → Outside xs (p + 1) q → Outside xs p q
+  space : {p q : ℕ} → Begins xs p Text → is_white (byte xs p) ≡ true → Outside xs (p + 1) q → Outside xs p q
   comment : {p r q : ℕ} → Begins xs p Comment → IsComment xs p r → Outside xs r q → Outside xs p q
   instruction : {p r q : ℕ} → Begins xs p Instruction → IsInstruction xs p r → Outside xs r q → Outside xs p q
 

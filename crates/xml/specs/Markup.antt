@@ -1,6 +1,6 @@
 -- What stands at a place of a listing: the markup that begins there, the complete markup, and what is wrong with it.
 use Rattle.std.specs.Prelude.{◌≡◌, ℕ, ◌+◌, ◌-◌, ◌<◌, ◌≤◌, Bool, true, false, cond, ◌&&◌, ◌||◌, List, [], ◌∷◌, length, ◌==◌, ◌≢◌}
-use Rattle.labels.specs.Spelling.{byte, white, starts, Longest, Named, Spelled, name_limit}
+use Rattle.labels.specs.Spelling.{byte, is_white, starts_name, Longest, Named, Spelled, name_limit}
 use Rattle.xml.specs.Bytes.{plain, apart, Stands}
 use Rattle.xml.specs.declared.fault.Markup.{Markup}
 use Rattle.xml.specs.declared.fault.Markup.TheVariants.{Nothing, Text, EndTag, Comment, Declaration, Instruction, StartTag, Cut, Stray}
@@ -14,7 +14,7 @@ two_dashes (a ∷ b ∷ bs) = a == 45 && b == 45
 abbrev pub behind : List ℕ → Markup
 behind [] = Cut
 behind (b ∷ bs) =
-    cond (b == 47) EndTag (cond (b == 33) (cond (two_dashes bs) Comment Declaration) (cond (b == 63) Instruction (cond (starts b) StartTag Stray)))
+    cond (b == 47) EndTag (cond (b == 33) (cond (two_dashes bs) Comment Declaration) (cond (b == 63) Instruction (cond (starts_name b) StartTag Stray)))
 
 abbrev pub markup : List ℕ → Markup
 markup [] = Nothing
@@ -41,7 +41,7 @@ pub record IsInstruction (xs : List ℕ) (p q : ℕ) : Type 0 where
 -- The rest of a start tag whose name ends at n: white space, `/` or `>`, and the first `>`, at c, with no `<` before it.
 -- Only `>` may follow a `/` right after the name.
 pub record TagEnds (xs : List ℕ) (n c : ℕ) : Type 0 where
-  pub after : (white (byte xs n) || (byte xs n == 47 || byte xs n == 62)) ≡ true
+  pub after : (is_white (byte xs n) || (byte xs n == 47 || byte xs n == 62)) ≡ true
   pub slash : byte xs n ≡ 47 → c ≡ n + 1
   pub rest : Longest (λ i. plain (byte xs i)) (length xs) n c
   pub closes : byte xs c ≡ 62
@@ -56,7 +56,7 @@ pub record IsStart (xs : List ℕ) (p n q : ℕ) (empty : Bool) : Type 0 where
 
 -- The rest of an end tag: white space if any, `>`
 pub record EndEnds (xs : List ℕ) (n c : ℕ) : Type 0 where
-  pub space : Longest (λ i. white (byte xs i)) (length xs) n c
+  pub space : Longest (λ i. is_white (byte xs i)) (length xs) n c
   pub closes : byte xs c ≡ 62
 
 -- An end tag with the name from p + 2 to n
@@ -69,7 +69,7 @@ pub record IsEnd (xs : List ℕ) (p n q : ℕ) : Type 0 where
 -- What is wrong with a name at p, with its number and place
 pub data NameFault (xs : List ℕ) (p : ℕ) : ℕ → ℕ → Type 0 where
   ended : length xs ≤ p → NameFault xs p 31 (length xs)
-  no_start : p < length xs → starts (byte xs p) ≡ false → NameFault xs p 30 p
+  no_start : p < length xs → starts_name (byte xs p) ≡ false → NameFault xs p 30 p
   long : (q : ℕ) → Named xs p q → p + name_limit < q → NameFault xs p 32 p
 
 -- with the rest of a comment from b on
@@ -84,11 +84,11 @@ pub data InstructionFault (xs : List ℕ) (p : ℕ) : ℕ → ℕ → Type 0 whe
 -- with the rest of a start tag behind its name, which ends at n
 pub data TagFault (xs : List ℕ) (n : ℕ) : ℕ → ℕ → Type 0 where
   ended : length xs ≤ n → TagFault xs n 31 (length xs)
-  byte_behind : n < length xs → (white (byte xs n) || (byte xs n == 47 || byte xs n == 62)) ≡ false → TagFault xs n 30 n
+  byte_behind : n < length xs → (is_white (byte xs n) || (byte xs n == 47 || byte xs n == 62)) ≡ false → TagFault xs n 30 n
   slash_ended : byte xs n ≡ 47 → length xs ≤ n + 1 → TagFault xs n 31 (length xs)
   slash_byte : byte xs n ≡ 47 → n + 1 < length xs → (byte xs (n + 1) ≢ 62) → TagFault xs n 30 (n + 1)
-  unclosed : (white (byte xs n) || byte xs n == 62) ≡ true → Longest (λ i. plain (byte xs i)) (length xs) n (length xs) → TagFault xs n 31 (length xs)
-  opened : (c : ℕ) → (white (byte xs n) || byte xs n == 62) ≡ true → Longest (λ i. plain (byte xs i)) (length xs) n c → byte xs c ≡ 60 → TagFault xs n 30 c
+  unclosed : (is_white (byte xs n) || byte xs n == 62) ≡ true → Longest (λ i. plain (byte xs i)) (length xs) n (length xs) → TagFault xs n 31 (length xs)
+  opened : (c : ℕ) → (is_white (byte xs n) || byte xs n == 62) ≡ true → Longest (λ i. plain (byte xs i)) (length xs) n c → byte xs c ≡ 60 → TagFault xs n 30 c
 
 -- with a start tag whose name begins at b
 pub data StartFault (xs : List ℕ) (b : ℕ) : ℕ → ℕ → Type 0 where
@@ -97,5 +97,5 @@ pub data StartFault (xs : List ℕ) (b : ℕ) : ℕ → ℕ → Type 0 where
 
 -- with the rest of an end tag
 pub data EndFault (xs : List ℕ) (n : ℕ) : ℕ → ℕ → Type 0 where
-  ended : Longest (λ i. white (byte xs i)) (length xs) n (length xs) → EndFault xs n 31 (length xs)
-  byte_behind : (c : ℕ) → Longest (λ i. white (byte xs i)) (length xs) n c → c < length xs → (byte xs c ≢ 62) → EndFault xs n 30 c
+  ended : Longest (λ i. is_white (byte xs i)) (length xs) n (length xs) → EndFault xs n 31 (length xs)
+  byte_behind : (c : ℕ) → Longest (λ i. is_white (byte xs i)) (length xs) n c → c < length xs → (byte xs c ≢ 62) → EndFault xs n 30 c

@@ -2,7 +2,7 @@
 use Rattle.std.specs.Prelude.{◌≡◌, ℕ, ◌+◌, ◌<◌, ◌≤◌, Bool, true, false, List, [], ◌∷◌, length, drop, Some, None, Option, ◌≢◌}
 use Rattle.sources.specs.declared.event.Event.{Event}
 use Rattle.sources.specs.declared.event.Event.TheVariants.{Open, Close}
-use Rattle.labels.specs.Spelling.{byte, part, white, Spelled}
+use Rattle.labels.specs.Spelling.{byte, part, is_white, Spelled}
 use Rattle.xml.specs.Faults.{number, place}
 use Rattle.xml.specs.Markup.{markup, IsComment, IsInstruction, IsStart, IsEnd, NameFault, CommentFault, InstructionFault, StartFault, EndFault}
 use Rattle.xml.specs.declared.fault.Markup.{Markup}
@@ -35,8 +35,8 @@ pub data Found : Type 0 where
 pub data Finds (xs : List ℕ) (p : ℕ) (names : List (List ℕ)) (rooted : Bool) : Markup → Found → Type 0 where
   finish : names ≡ [] → rooted ≡ true → Finds xs p names rooted Nothing finishes
   early : (names ≡ [] → rooted ≢ true) → Finds xs p names rooted Nothing (refuses 31 (length xs))
-  text : (names ≡ [] → white (byte xs p) ≡ true) → Finds xs p names rooted Text (skips (p + 1))
-  no_text : names ≡ [] → white (byte xs p) ≡ false → Finds xs p names rooted Text (refuses 30 p)
+  text : (names ≡ [] → is_white (byte xs p) ≡ true) → Finds xs p names rooted Text (skips (p + 1))
+  no_text : names ≡ [] → is_white (byte xs p) ≡ false → Finds xs p names rooted Text (refuses 30 p)
   comment : {q : ℕ} → IsComment xs p q → Finds xs p names rooted Comment (skips q)
   comment_fault : {k at : ℕ} → CommentFault xs (p + 4) k at → Finds xs p names rooted Comment (refuses k at)
   instruction : {q : ℕ} → IsInstruction xs p q → Finds xs p names rooted Instruction (skips q)

@@ -3,7 +3,7 @@ use Rattle.std.specs.Prelude.{◌≡◌, ℕ, suc, ◌+◌, ◌-◌, ◌<◌, �
 use Rattle.std.proofs.Common.{sym, ◌∙◌, ap, subst, inl, inr, add-zero, arith, length-drop}
 use Rattle.std.proofs.lemmas.List.{get_or-drop}
 use Rattle.std.proofs.lemmas.Bool.{cases_lt, and_parts, not-false, eqb-true, or_cases}
-use Rattle.labels.specs.Spelling.{byte, white, starts, Longest}
+use Rattle.labels.specs.Spelling.{byte, is_white, starts_name, Longest}
 use Rattle.xml.specs.Bytes.{plain, apart}
 use Rattle.xml.specs.Markup.{markup, behind, two_dashes, TagEnds}
 use Rattle.xml.specs.declared.fault.Markup.{Markup}
@@ -39,7 +39,7 @@ least Stray = 2
 
 behind_long : (bs : List ℕ) → least (behind bs) ≤ suc (length bs)
 behind_long [] = omega arith
-behind_long (b ∷ bs) = go (b == 47) (b == 33) (two_dashes bs) refl (b == 63) (starts b)
+behind_long (b ∷ bs) = go (b == 47) (b == 33) (two_dashes bs) refl (b == 63) (starts_name b)
   where
     go : (t₁ t₂ t₃ : Bool) → two_dashes bs ≡ t₃ → (t₄ t₅ : Bool) →
         least (cond t₁ EndTag (cond t₂ (cond t₃ Comment Declaration) (cond t₄ Instruction (cond t₅ StartTag Stray)))) ≤ suc (suc (length bs))
@@ -87,15 +87,15 @@ slash_tag xs n e h f =
     let at_n : plain (byte xs n) ≡ true = ap plain e in
     let here : (i : ℕ) → n ≤ i → i < n → plain (byte xs i) ≡ true = λ i a b. absurd (omega arith) in
     record {
-      after = ap (λ b. white b || (b == 47 || b == 62)) e;
+      after = ap (λ b. is_white b || (b == 47 || b == 62)) e;
       slash = λ _. refl;
       rest = record { late = omega arith; within = omega arith; all = one_more (λ i. plain (byte xs i)) n n here at_n; stops = λ _. ap plain f };
       closes = f;
     }
 
 -- white space or `>` right after the name
-no_slash : (b : ℕ) → (white b || b == 62) ≡ true → ((white b || (b == 47 || b == 62)) ≡ true) × (b ≢ 47)
-no_slash b h = (go (white b) (b == 47) (b == 62) h, λ e. let z : false ≡ true = (sym (ap (λ x. white x || x == 62) e)) ∙ h in let y : ◌≡◌ {A = ℕ} 0 1 = cc in omega arith)
+no_slash : (b : ℕ) → (is_white b || b == 62) ≡ true → ((is_white b || (b == 47 || b == 62)) ≡ true) × (b ≢ 47)
+no_slash b h = (go (is_white b) (b == 47) (b == 62) h, λ e. let z : false ≡ true = (sym (ap (λ x. is_white x || x == 62) e)) ∙ h in let y : ◌≡◌ {A = ℕ} 0 1 = cc in omega arith)
   where
     go : (t₁ t₂ t₃ : Bool) → (t₁ || t₃) ≡ true → (t₁ || (t₂ || t₃)) ≡ true
     go true t₂ t₃ h = refl
@@ -116,7 +116,7 @@ no_close b h n = go (or_cases (b == 60) (b == 62) (not-false _ h))
     go (inl e) = eqb-true b 60 e
     go (inr e) = absurd (n (eqb-true b 62 e))
 
-pub bracket_tag : (xs : List ℕ) (n c : ℕ) → (white (byte xs n) || byte xs n == 62) ≡ true → Longest (λ i. plain (byte xs i)) (length xs) n c →
+pub bracket_tag : (xs : List ℕ) (n c : ℕ) → (is_white (byte xs n) || byte xs n == 62) ≡ true → Longest (λ i. plain (byte xs i)) (length xs) n c →
     c < length xs → (byte xs c ≢ 60) → TagEnds xs n c
 bracket_tag xs n c h l w ne =
     let s = no_slash (byte xs n) h in

@@ -7,7 +7,7 @@ use Rattle.std.proofs.lemmas.Slice.Eq.{bytes_eq-Decides}
 use Rattle.std.specs.Str.{bytes_eq}
 use Rattle.sources.specs.declared.event.Event.{Event}
 use Rattle.sources.specs.declared.event.Event.TheVariants.{Open, Close}
-use Rattle.labels.specs.Spelling.{byte, part, white, starts, inside, Longest, name_limit, Spelled}
+use Rattle.labels.specs.Spelling.{byte, part, is_white, starts_name, continues_name, Longest, name_limit, Spelled}
 use Rattle.xml.specs.Bytes.{plain, apart}
 use Rattle.xml.specs.Shapes.{slash_tag, bracket_tag, pair_here, reaches}
 use Rattle.xml.specs.Faults.{number, place}
@@ -55,7 +55,7 @@ module _ (xs : List ℕ) where
   some_name : (p : ℕ) → Outcome (Spelled xs p) (NameFault xs p)
   some_name p = go (cases_lt p (length xs))
     where
-      by_length : starts (byte xs p) ≡ true → (q : ℕ) → Longest (λ i. inside (byte xs i)) (length xs) p q → ((q ≤ p + name_limit) ⊎ (p + name_limit < q)) → Outcome (Spelled xs p) (NameFault xs p)
+      by_length : starts_name (byte xs p) ≡ true → (q : ℕ) → Longest (λ i. continues_name (byte xs i)) (length xs) p q → ((q ≤ p + name_limit) ⊎ (p + name_limit < q)) → Outcome (Spelled xs p) (NameFault xs p)
       by_length s q l (inl h) = good q (record { begins = s; ends = l }, h)
       by_length s q l (inr h) = bad (Scan (LongName p)) (long q (record { begins = s; ends = l }) h)
 
@@ -63,12 +63,12 @@ module _ (xs : List ℕ) where
       swap (inl a) = inr a
       swap (inr b) = inl b
 
-      first : p < length xs → ((starts (byte xs p) ≡ true) ⊎ (starts (byte xs p) ≡ false)) → Outcome (Spelled xs p) (NameFault xs p)
-      first h (inl s) = let l = longest (λ i. inside (byte xs i)) (length xs) p (omega arith) in by_length s l.0 l.1 (swap (cases_lt (p + name_limit) l.0))
+      first : p < length xs → ((starts_name (byte xs p) ≡ true) ⊎ (starts_name (byte xs p) ≡ false)) → Outcome (Spelled xs p) (NameFault xs p)
+      first h (inl s) = let l = longest (λ i. continues_name (byte xs i)) (length xs) p (omega arith) in by_length s l.0 l.1 (swap (cases_lt (p + name_limit) l.0))
       first h (inr s) = bad (Scan (Byte p)) (no_start h s)
 
       go : ((p < length xs) ⊎ (length xs ≤ p)) → Outcome (Spelled xs p) (NameFault xs p)
-      go (inl h) = first h (cases_Bool (starts (byte xs p)))
+      go (inl h) = first h (cases_Bool (starts_name (byte xs p)))
       go (inr h) = bad (Scan (End (length xs))) (name_ended h)
 
   some_comment : (p : ℕ) → p + 4 ≤ length xs → Outcome (IsComment xs p) (CommentFault xs (p + 4))
@@ -105,23 +105,23 @@ module _ (xs : List ℕ) where
       go (d, l) = fits d l (cases_lt d (length xs))
 
   some_end : (n : ℕ) → n ≤ length xs → Outcome (EndEnds xs n) (EndFault xs n)
-  some_end n h = go (longest (λ i. white (byte xs i)) (length xs) n h)
+  some_end n h = go (longest (λ i. is_white (byte xs i)) (length xs) n h)
     where
-      behind_it : (c : ℕ) → Longest (λ i. white (byte xs i)) (length xs) n c → c < length xs → ((byte xs c ≡ 62) ⊎ (byte xs c ≢ 62)) → Outcome (EndEnds xs n) (EndFault xs n)
+      behind_it : (c : ℕ) → Longest (λ i. is_white (byte xs i)) (length xs) n c → c < length xs → ((byte xs c ≡ 62) ⊎ (byte xs c ≢ 62)) → Outcome (EndEnds xs n) (EndFault xs n)
       behind_it c l w (inl e) = good c (record { space = l; closes = e })
       behind_it c l w (inr ne) = bad (Scan (Byte c)) (end_byte c l w ne)
 
-      fits : (c : ℕ) → Longest (λ i. white (byte xs i)) (length xs) n c → ((c < length xs) ⊎ (length xs ≤ c)) → Outcome (EndEnds xs n) (EndFault xs n)
+      fits : (c : ℕ) → Longest (λ i. is_white (byte xs i)) (length xs) n c → ((c < length xs) ⊎ (length xs ≤ c)) → Outcome (EndEnds xs n) (EndFault xs n)
       fits c l (inl w) = behind_it c l w (cases_eq (byte xs c) 62)
       fits c l (inr w) =
           let within = l.within in
           let e : c ≡ length xs = omega arith in
-          bad (Scan (End (length xs))) (end_ended (subst (λ q. Longest (λ i. white (byte xs i)) (length xs) n q) e l))
+          bad (Scan (End (length xs))) (end_ended (subst (λ q. Longest (λ i. is_white (byte xs i)) (length xs) n q) e l))
 
-      go : ((c : ℕ) × Longest (λ i. white (byte xs i)) (length xs) n c) → Outcome (EndEnds xs n) (EndFault xs n)
+      go : ((c : ℕ) × Longest (λ i. is_white (byte xs i)) (length xs) n c) → Outcome (EndEnds xs n) (EndFault xs n)
       go (c, l) = fits c l (cases_lt c (length xs))
 
-  some_bracket : (n : ℕ) → n < length xs → (white (byte xs n) || byte xs n == 62) ≡ true → Outcome (TagEnds xs n) (TagFault xs n)
+  some_bracket : (n : ℕ) → n < length xs → (is_white (byte xs n) || byte xs n == 62) ≡ true → Outcome (TagEnds xs n) (TagFault xs n)
   some_bracket n h b = go (longest (λ i. plain (byte xs i)) (length xs) n (omega arith))
     where
       which : (c : ℕ) → Longest (λ i. plain (byte xs i)) (length xs) n c → c < length xs → ((byte xs c ≡ 60) ⊎ (byte xs c ≢ 60)) → Outcome (TagEnds xs n) (TagFault xs n)
@@ -149,15 +149,15 @@ module _ (xs : List ℕ) where
       slash s (inl w) = after_slash s w (cases_eq (byte xs (n + 1)) 62)
       slash s (inr w) = bad (Scan (End (length xs))) (slash_ended s w)
 
-      other : n < length xs → (byte xs n ≢ 47) → (((white (byte xs n) || byte xs n == 62) ≡ true) ⊎ ((white (byte xs n) || byte xs n == 62) ≡ false)) → Outcome (TagEnds xs n) (TagFault xs n)
+      other : n < length xs → (byte xs n ≢ 47) → (((is_white (byte xs n) || byte xs n == 62) ≡ true) ⊎ ((is_white (byte xs n) || byte xs n == 62) ≡ false)) → Outcome (TagEnds xs n) (TagFault xs n)
       other w s (inl b) = some_bracket n w b
       other w s (inr b) =
-          let h = or_parts (white (byte xs n)) (byte xs n == 62) b in
+          let h = or_parts (is_white (byte xs n)) (byte xs n == 62) b in
           bad (Scan (Byte n)) (tag_byte w (or_from _ _ h.0 (or_from _ _ (ne_eqb _ 47 s) h.1)))
 
       by_slash : n < length xs → ((byte xs n ≡ 47) ⊎ (byte xs n ≢ 47)) → Outcome (TagEnds xs n) (TagFault xs n)
       by_slash w (inl s) = slash s (cases_lt (n + 1) (length xs))
-      by_slash w (inr s) = other w s (cases_Bool (white (byte xs n) || byte xs n == 62))
+      by_slash w (inr s) = other w s (cases_Bool (is_white (byte xs n) || byte xs n == 62))
 
       go : ((n < length xs) ⊎ (length xs ≤ n)) → Outcome (TagEnds xs n) (TagFault xs n)
       go (inl w) = by_slash w (cases_eq (byte xs n) 47)
@@ -193,9 +193,9 @@ module _ (xs : List ℕ) (p : ℕ) (names : List (List ℕ)) (rooted : Bool) whe
       go (inr ne) r = fault (Scan (End (length xs))) (early (λ e _. ne e))
 
   at_text : Next xs p names rooted Text
-  at_text = go (cases_nil names) (cases_Bool (white (byte xs p)))
+  at_text = go (cases_nil names) (cases_Bool (is_white (byte xs p)))
     where
-      go : ((names ≡ []) ⊎ (names ≢ [])) → ((white (byte xs p) ≡ true) ⊎ (white (byte xs p) ≡ false)) → Next xs p names rooted Text
+      go : ((names ≡ []) ⊎ (names ≢ [])) → ((is_white (byte xs p) ≡ true) ⊎ (is_white (byte xs p) ≡ false)) → Next xs p names rooted Text
       go n (inl w) = skip (p + 1) (omega arith) (text (λ _. w))
       go (inl e) (inr w) = fault (Scan (Byte p)) (no_text e w)
       go (inr ne) (inr w) = skip (p + 1) (omega arith) (text (λ e. absurd (ne e)))

@@ -5,8 +5,8 @@ use Rattle.labels.specs.Spelling.{LongestBy}
 use Rattle.labels.proofs.SpellingLaws.{run_from_first}
 use Rattle.labels.proofs.spelling.run_end.Goals as goal
 
-pub returns-clause-inside : goal.returns-clause-inside
-returns-clause-inside g c h =
+pub returns-clause-within : goal.returns-clause-within
+returns-clause-within g c h =
     let R : ℕ → Bool → Type 0 = λ x b. goal.F-post g c.args.passes x b in
     let bs : List ℕ = c.args.bytes.now in
     let rest : c.iter.result.rest.now ≡ drop c.args.from c.args.bytes.now = c.iter.ensures.rest ∙ c.rest-rest.ensures in

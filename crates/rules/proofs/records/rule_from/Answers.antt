@@ -18,7 +18,7 @@ pub returns-in_err-nodes : goal.returns-in_err-nodes
 returns-in_err-nodes c =
     let p = err_from_is_err_and c.from_residual.result c.from_residual.ensures.1 in
     let which : c.in_err-nodes.field-0.0 ≡ Bad c.loop-number.number = let e = rw c.in_err-nodes.ensures.ok_part at c.in_err-nodes.ensures.value in cc in
-    let all = whole _ _ _ c.as_chunks.ensures.front_len c.as_chunks.ensures.back_len c.if-not-is_empty.ensures c.if-len-eq0.false c.if-len-gt-RULE_NODES.false in
+    let all = whole _ _ _ c.as_chunks.ensures.front_len c.as_chunks.ensures.back_len c.if-not-is_empty.ensures c.if-len-eq0.false c.if-len-gt-NODE_LIMIT.false in
     let none = rw c.in_err-nodes.ensures.ok_part at c.node_of.ensures in
     rw (p.1, p.2, which) (
     unset_sole (first_bad _ _ c.loop-number.nodes _ all c.as_chunks.ensures.front c.as_chunks.ensures.front_len c.loop-number-test.true c.loop-number.invariant.1 none))
@@ -32,11 +32,11 @@ loop-number-preserved c =
 
 pub invariant_of-result : goal.invariant_of-result
 invariant_of-result c =
-    let all = whole _ _ _ c.as_chunks.ensures.front_len c.as_chunks.ensures.back_len c.if-not-is_empty.ensures c.if-len-eq0.false c.if-len-gt-RULE_NODES.false in
+    let all = whole _ _ _ c.as_chunks.ensures.front_len c.as_chunks.ensures.back_len c.if-not-is_empty.ensures c.if-len-eq0.false c.if-len-gt-NODE_LIMIT.false in
     let r = all_recorded _ _ c.loop-number.nodes _ all c.as_chunks.ensures.front c.as_chunks.ensures.front_len c.loop-number.invariant.0 c.loop-number-test.false c.loop-number.invariant.1 in
-    record { some = r.whole.some; few = c.if-len-gt-RULE_NODES.false; rooted = recorded_rooted r; ordered = recorded_ordered r }
+    record { some = r.whole.some; few = c.if-len-gt-NODE_LIMIT.false; rooted = recorded_rooted r; ordered = recorded_ordered r }
 
 pub returns : goal.returns
 returns c =
-    let all = whole _ _ _ c.as_chunks.ensures.front_len c.as_chunks.ensures.back_len c.if-not-is_empty.ensures c.if-len-eq0.false c.if-len-gt-RULE_NODES.false in
+    let all = whole _ _ _ c.as_chunks.ensures.front_len c.as_chunks.ensures.back_len c.if-not-is_empty.ensures c.if-len-eq0.false c.if-len-gt-NODE_LIMIT.false in
     set_sole (all_recorded _ _ c.loop-number.nodes _ all c.as_chunks.ensures.front c.as_chunks.ensures.front_len c.loop-number.invariant.0 c.loop-number-test.false c.loop-number.invariant.1)

@@ -2,7 +2,7 @@ use Rattle.std.proofs.Common.{◌≡◌, ◌<◌, List, length, take, sym, ◌�
 use Rattle.std.proofs.lemmas.List.{length-set, length-map}
 use Rattle.rules.specs.declared.node.RuleNode.{RuleNode}
 use Rattle.rules.specs.Rule.{Rooted, Ordered}
-use Rattle.rules.specs.Expression.{plain, rule_nodes_of}
+use Rattle.rules.specs.RuleNodes.{plain, plain_nodes}
 use Rattle.rules.proofs.Made.{make_more, make_all}
 use Rattle.rules.proofs.Written.{blank}
 use Rattle.rules.proofs.text.rule_of.Goals as goal
@@ -14,7 +14,7 @@ loop-i-preserved c =
       make_more c.loop-i.made c.args.nodes.now c.loop-i.i blank c.from.result c.loop-i-test.true (omega arith) c.from.ensures c.loop-i.invariant.1,
     )
 
-whole : (c : goal.After-loop-i) → take (length c.args.nodes.now) c.loop-i.made ≡ rule_nodes_of c.args.nodes.now
+whole : (c : goal.After-loop-i) → take (length c.args.nodes.now) c.loop-i.made ≡ plain_nodes c.args.nodes.now
 whole c = make_all c.loop-i.made c.args.nodes.now c.loop-i.i c.loop-i-test.false c.loop-i.auto.i-end c.loop-i.invariant.1
 
 pub invariant_of-result : goal.invariant_of-result

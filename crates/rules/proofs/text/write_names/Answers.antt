@@ -16,7 +16,7 @@ loop-i-preserved g c =
         let named : (get_or c.args.nodes.now c.loop-i.i blank).test.kind ≡ Name = search rules in
             subst (λ ys. NamesIn g.N.NameLabel.spelled c.args.text.now (take (c.loop-i.i + 1) c.args.nodes.now) c.args.names.now ys) (sym w.names-is)
             (name_turn g.N.NameLabel.spelled c.args.text.now c.args.nodes.now c.loop-i.i blank c.args.names.now c.loop-i.names w.unwrap.result
-            c.loop-i-test.true c.requires.few named (made_label _ _ _ _ w.from_name.ensures w.unwrap.ensures) c.loop-i.invariant.1),
+            c.loop-i-test.true c.requires.few named (made_label _ _ _ _ w.from_bytes.ensures w.unwrap.ensures) c.loop-i.invariant.1),
       )
       | else-eq w ↦ (
         c.if-eq.auto.names ∙ c.loop-i.auto.names,

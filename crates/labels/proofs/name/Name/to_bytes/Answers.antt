@@ -2,7 +2,7 @@ use Rattle.std.proofs.Common.{◌≡◌, length, ap, ◌∙◌, arith}
 use Rattle.std.proofs.lemmas.List.{length-take-le}
 use Rattle.labels.specs.Names.{bytes_of}
 use Rattle.labels.proofs.Making.{few_name}
-use Rattle.labels.proofs.name.Name.bytes.Goals as goal
+use Rattle.labels.proofs.name.Name.to_bytes.Goals as goal
 
 pub push-requires : goal.push-requires
 push-requires c =

@@ -1,7 +1,7 @@
 use Rattle.std.proofs.Common.{ℕ, sym, subst, rules}
 use Rattle.rules.specs.Records.{AnyByte, named, any}
 use Rattle.rules.proofs.RecordLaws.{no_any}
-use Rattle.rules.proofs.records.any_of.Goals as goal
+use Rattle.rules.proofs.records.any_from.Goals as goal
 
 pub returns-in-0 : goal.returns-in-0
 returns-in-0 c = subst (λ (b : ℕ). AnyByte b _) (sym c.in-0.is) named
