@@ -26,6 +26,7 @@ fn records_give_the_rule(rt: HostRuntime) {
     };
     assert_eq!(rt; node(&rule, 0), Some(root));
     assert_eq!(rt; node(&rule, 1), None);
+    assert_eq!(rt; Rule::default().nodes(), rule.nodes());
     assert_eq!(rt; rule.set_records(&[0, 0, 1, 0, 1, 0, 1, 0, 1]), Ok(()));
     let below = RuleNode {
         parent: 0,

@@ -18,6 +18,8 @@ fn good_texts(rt: HostRuntime) {
     assert_eq!(rt; count(b"//a[b][.//c]"), Ok(3));
     assert_eq!(rt; count(b" // a [ b / c // * ] "), Ok(4));
     assert_eq!(rt; count(b"//a[b.//c]"), Ok(3));
+    assert_eq!(rt; count(b"//a\t[\r\nb]"), Ok(2));
+    assert_eq!(rt; count(b"//or[div][text]"), Ok(3));
 }
 
 #[test]
@@ -27,6 +29,12 @@ fn tokens_are_judged_whole(rt: HostRuntime) {
     assert_eq!(rt; count(b"//a[//b]"), Err(TextRefusal::NotAllowed(4)));
     assert_eq!(rt; count(b"//a[b"), Err(TextRefusal::NotAllowed(5)));
     assert_eq!(rt; count(b"  "), Err(TextRefusal::NotAllowed(2)));
+    assert_eq!(rt; count(b"/ /a"), Err(TextRefusal::NotAllowed(0)));
+    assert_eq!(rt; count(b"//a b"), Err(TextRefusal::NotAllowed(4)));
+    assert_eq!(rt; count(b"//a$"), Err(TextRefusal::NotAllowed(3)));
+    assert_eq!(rt; count(b"//a/b"), Err(TextRefusal::NotAllowed(3)));
+    assert_eq!(rt; count(b"//a]"), Err(TextRefusal::NotAllowed(3)));
+    assert_eq!(rt; count(b"//a[..//b]"), Err(TextRefusal::NotAllowed(5)));
 }
 
 #[test]

@@ -14,7 +14,11 @@ digits (suc n) w = digits n (w / 256) ++ w % 256 ∷ []
 
 -- the bytes of a name
 abbrev pub bytes_of : Name → List ℕ
-bytes_of n = digits (min 8 n.len) n.first ++ (digits (min 8 (n.len - 8)) n.second ++ (digits (min 8 (n.len - 16)) n.third ++ digits (min 8 (n.len - 24)) n.fourth))
+bytes_of n =
+    digits (min 8 n.len) n.first
+    ++ (digits (min 8 (n.len - 8)) n.second
+    ++ (digits (min 8 (n.len - 16)) n.third
+    ++ digits (min 8 (n.len - 24)) n.fourth))
 
 ------------------------------------------------------------------------
 -- making names

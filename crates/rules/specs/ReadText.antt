@@ -15,8 +15,15 @@ use Rattle.rules.specs.Limits.{node_limit}
 -- each named rule node of ns has its name in the list at its number; the other entries are as before
 pub data NamesIn {N : Type 0} (spelled : N → List ℕ) (bs : List ℕ) : List ParsedNode → List N → List N → Type 0 where
   behind : {xs : List N} → NamesIn spelled bs [] xs xs
-  named : {n : ParsedNode} {ns : List ParsedNode} {x y : N} {xs ys : List N} → n.test.kind ≡ Name → spelled y ≡ token_bytes bs n.test → NamesIn spelled bs ns xs ys → NamesIn spelled bs (n ∷ ns) (x ∷ xs) (y ∷ ys)
-  unnamed : {n : ParsedNode} {ns : List ParsedNode} {x : N} {xs ys : List N} → (n.test.kind ≢ Name) → NamesIn spelled bs ns xs ys → NamesIn spelled bs (n ∷ ns) (x ∷ xs) (x ∷ ys)
+  named : {n : ParsedNode} {ns : List ParsedNode} {x y : N} {xs ys : List N}
+      → n.test.kind ≡ Name
+      → spelled y ≡ token_bytes bs n.test
+      → NamesIn spelled bs ns xs ys
+      → NamesIn spelled bs (n ∷ ns) (x ∷ xs) (y ∷ ys)
+  unnamed : {n : ParsedNode} {ns : List ParsedNode} {x : N} {xs ys : List N}
+      → (n.test.kind ≢ Name)
+      → NamesIn spelled bs ns xs ys
+      → NamesIn spelled bs (n ∷ ns) (x ∷ xs) (x ∷ ys)
 
 -- Reading the text bs with so many entries for names gives the rule nodes ns.
 pub record ReadingGives (bs : List ℕ) (entries : ℕ) (ns : List ParsedNode) : Type 0 where
@@ -38,7 +45,8 @@ OnlyRefused bs entries f = Sole (ReadingRefused bs entries) (ReadingGives bs ent
 
 -- The text gives the rule, and the list has the names of its named rule nodes at their numbers and in all other entries
 -- what it had. As an expression of XPath 1.0 the text selects the nodes at which the rule occurs.
-pub record ReadInto {N : Type 0} (same : N → N → Bool) (spelled : N → List ℕ) (alike : List ℕ → List ℕ → Bool) (bs : List ℕ) (rule : Rule) (before after : List N) : Type 0 where
+pub record ReadInto {N : Type 0} (same : N → N → Bool) (spelled : N → List ℕ) (alike : List ℕ → List ℕ → Bool)
+    (bs : List ℕ) (rule : Rule) (before after : List N) : Type 0 where
   pub nodes : List ParsedNode
   pub accepted : OnlyGives bs (length before) nodes
   pub rule_is : rule_nodes rule ≡ plain_nodes nodes
@@ -48,7 +56,8 @@ pub record ReadInto {N : Type 0} (same : N → N → Bool) (spelled : N → List
   pub selects : SelectsAlike same spelled alike bs (rule_nodes rule) after
 
 -- a refusal alters nothing
-pub record Unread {N : Type 0} (bs : List ℕ) (f : TextRefusal) (rule rule' : Rule) (before after : List N) : Type 0 where
+pub record Unread {N : Type 0} (bs : List ℕ) (f : TextRefusal)
+    (rule rule' : Rule) (before after : List N) : Type 0 where
   pub refused : OnlyRefused bs (length before) f
   pub rule_same : rule' ≡ rule
   pub names_same : after ≡ before

@@ -61,7 +61,12 @@ pub record Recorded (bs : List ℕ) (ns : List RuleNode) : Type 0 where
 -- The bytes are refused with a number, and 16 with the number of the first bad record.
 pub data RecordReason (bs : List ℕ) : ℕ × Option ℕ → Type 0 where
   size : ((k : ℕ) → Whole bs k → ⊥) → RecordReason bs (15, None)
-  bad : {k i : ℕ} → Whole bs k → i < k → ((j : ℕ) → j < i → (n : RuleNode) × RecordAt bs j n) → BadAt bs i → RecordReason bs (16, Some i)
+  bad : {k i : ℕ}
+      → Whole bs k
+      → i < k
+      → ((j : ℕ) → j < i → (n : RuleNode) × RecordAt bs j n)
+      → BadAt bs i
+      → RecordReason bs (16, Some i)
 
 -- The rule has the rule nodes of the records. They have no others, and there is no reason to refuse them.
 abbrev pub OnlySet : List ℕ → Rule → Type 0

@@ -1,4 +1,4 @@
--- Which rule texts are accepted, and with what number and at which place the others are refused.
+-- What is wrong with a token, and which lists of tokens are accepted or refused.
 use Rattle.std.specs.Prelude.{◌≡◌, ℕ, ◌-◌, ◌<◌, ◌≤◌, Bool, true, false, List, [], ◌∷◌, ◌++◌}
 use Rattle.std.specs.List.{count_by}
 use Rattle.rules.specs.declared.syntax.Kind.{Kind}
