@@ -1,11 +1,18 @@
 //! What is proved of labels.
 ghost use Rattle.std.specs.Prelude.{◌≡◌, ◌↔◌, true};
+ghost use Rattle.std.specs.Cmp.{IsEquivalence};
 ghost use Rattle.labels.specs.Names.{bytes_of, MakingInverse};
 ghost use Rattle.labels.specs.declared.code.FolderCode.{FolderCode};
 ghost use Rattle.labels.specs.declared.name.Name.{Name};
 
 use crate::code::FolderCode;
+use crate::kind::LabelKind;
 use crate::name::Name;
+
+/// The equality of every label kind is reflexive, symmetric and transitive.
+pub fn label_equality_is_an_equivalence<L: LabelKind>()
+    ensures { IsEquivalence L.eq }
+{}
 
 /// Names are equal exactly when they have the same bytes.
 #[tactic(auto, using(crate::specs::NameLaws::equal_bytes, crate::specs::NameLaws::bytes_equal))]
