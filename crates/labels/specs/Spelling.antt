@@ -22,19 +22,20 @@ starts_name b = is_ascii_alphabetic b || b == 95
 abbrev pub continues_name : ℕ → Bool
 continues_name b = starts_name b || (is_ascii_digit b || (b == 46 || b == 45))
 
--- The longest run of places from p on that pass the test ends at q; it does not pass the end.
-pub record Longest (ok : ℕ → Bool) (end p q : ℕ) : Type 0 where
+-- The longest run of places from p on that pass ends at q; it does not pass the end.
+pub record LongestRun (Passes Fails : ℕ → Type 0) (end p q : ℕ) : Type 0 where
   pub late : p ≤ q
   pub within : q ≤ end
-  pub all : (i : ℕ) → p ≤ i → i < q → ok i ≡ true
-  pub stops : q < end → ok q ≡ false
+  pub all : (i : ℕ) → p ≤ i → i < q → Passes i
+  pub stops : q < end → Fails q
 
--- the same, of a test of bytes that is told by what it may answer
-pub record LongestBy (answers : ℕ → Bool → Type 0) (bs : List ℕ) (p q : ℕ) : Type 0 where
-  pub late : p ≤ q
-  pub within : q ≤ length bs
-  pub all : (i : ℕ) → p ≤ i → i < q → answers (byte bs i) true
-  pub stops : q < length bs → answers (byte bs q) false
+-- of places that pass a test
+abbrev pub Longest : (ℕ → Bool) → ℕ → ℕ → ℕ → Type 0
+Longest ok end p q = LongestRun (λ i. ok i ≡ true) (λ i. ok i ≡ false) end p q
+
+-- of bytes that pass a test in the code, of which only its possible answers are known
+abbrev pub LongestBy : (ℕ → Bool → Type 0) → List ℕ → ℕ → ℕ → Type 0
+LongestBy answers bs p q = LongestRun (λ i. answers (byte bs i) true) (λ i. answers (byte bs i) false) (length bs) p q
 
 -- A name begins at p, and ends at q since it is as long as it can be.
 pub record Named (bs : List ℕ) (p q : ℕ) : Type 0 where
