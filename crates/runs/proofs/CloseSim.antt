@@ -11,12 +11,15 @@ use Rattle.runs.specs.declared.refusal.Refusal.{Refusal}
 use Rattle.runs.specs.declared.call.Call.TheVariants as call
 use Rattle.runs.specs.Bits.{Has}
 use Rattle.runs.specs.Words.{Words, Found, Closes, above, joined}
-use Rattle.runs.specs.Model.{In, innermost, KeptChild, MeetsAt, OccursAt, closing, Does, closed}
+use Rattle.runs.specs.Picks.{In}
+use Rattle.runs.specs.Answers.{told_by, closed}
+use Rattle.runs.specs.Model.{innermost, KeptChild, MeetsAt, OccursAt, closing, Does}
 use Rattle.runs.specs.Stands.{Tree, FitsAt, ClosedChild, FitsWithin, LevelStands, LevelsStand, Chain, Shows}
 use Rattle.runs.proofs.BitLaws.{has_or}
 use Rattle.runs.proofs.FitLaws.{found_fits, fits_found}
 use Rattle.runs.proofs.EmbedLaws.{fits_embeds, embeds_fits}
-use Rattle.runs.proofs.PathLaws.{some_inj, one_parent, chain_less, level_keep, levels_keep}
+use Rattle.runs.proofs.TreeLaws.{some_inj, one_parent, chain_less}
+use Rattle.runs.proofs.PathLaws.{level_keep, levels_keep}
 
 -- the tree with other open, closed and waiting nodes
 abbrev pub moved : Tree → List ℕ → List ℕ → List ℕ → Tree
@@ -146,7 +149,7 @@ module _ (rule : List RuleNode) (ordered : Ordered rule) (some : 0 < length rule
   fitting v o = embeds_fits rule ordered some (KeptChild m) (MeetsAt Has m) v o.0 o.1
 
   close_at : {s s' : Words} {r : Result Bool Refusal} (vs : List ℕ) → Shows rule s (with_path vs) → Closes rule s r s'
-      → (m' : Tree) × Does rule Has (with_path vs) call.Close (closed r) m' × Shows rule s' m'
+      → (m' : Tree) × Does rule Has (with_path vs) call.Close (told_by closed r) m' × Shows rule s' m'
   close_at [] h (Closes.none e) = (with_path [], Does.none_to_close refl, h)
   close_at [] h (Closes.full l ps w e found k n) = let P : List Level → Type 0 = LevelsStand rule (with_path []) [] in absurd (subst P e h.levels)
   close_at [] h (Closes.selects l ps w e found k n) = let P : List Level → Type 0 = LevelsStand rule (with_path []) [] in absurd (subst P e h.levels)
@@ -189,5 +192,5 @@ module _ (rule : List RuleNode) (ordered : Ordered rule) (some : 0 < length rule
       )
 
   pub close_sim : {s s' : Words} {r : Result Bool Refusal} → Shows rule s m → Closes rule s r s'
-      → (m' : Tree) × Does rule Has m call.Close (closed r) m' × Shows rule s' m'
+      → (m' : Tree) × Does rule Has m call.Close (told_by closed r) m' × Shows rule s' m'
   close_sim h c = close_at m.path h c

@@ -5,6 +5,7 @@ pub mod NthLaws
 pub mod WordLaws
 pub mod FitLaws
 pub mod EmbedLaws
+pub mod TreeLaws
 pub mod PathLaws
 pub mod OpenSim
 pub mod CloseSim

@@ -1,46 +1,13 @@
--- The open nodes, and what a level stands for after a call.
-use Rattle.std.proofs.Common.{◌≡◌, ℕ, ◌<◌, ◌↔◌, List, [], ◌∷◌, Some, None, Option, sym, refl, ap, ◌∙◌, inl, inr, ⊎_elim, arith}
+-- What a level stands for after a call.
+use Rattle.std.proofs.Common.{◌≡◌, ℕ, ◌↔◌, List, [], ◌∷◌, Some, Option, sym, ◌∙◌, refl, inl, inr, ⊎_elim}
 use Rattle.std.specs.List.{slice_get}
 use Rattle.rules.specs.declared.node.RuleNode.{RuleNode}
-use Rattle.rules.specs.Embedding.{Nodes, ParentsFirst}
 use Rattle.runs.specs.declared.levels.Level.{Level}
 use Rattle.runs.specs.Bits.{Has}
-use Rattle.runs.specs.Model.{In, innermost, KeptChild, MeetsAt}
-use Rattle.runs.specs.Stands.{Tree, FitsAt, ClosedChild, FitsWithin, LevelStands, LevelsStand, Chain}
+use Rattle.runs.specs.Picks.{In}
+use Rattle.runs.specs.Model.{KeptChild, MeetsAt}
+use Rattle.runs.specs.Stands.{Tree, FitsAt, ClosedChild, FitsWithin, LevelStands, LevelsStand}
 use Rattle.runs.proofs.FitLaws.{below_moves, fits_moves}
-
-pub some_inj : (a b : ℕ) → ◌≡◌ {A = Option ℕ} (Some a) (Some b) → a ≡ b
-some_inj a b e = cc
-
-pub none_some : (a : ℕ) → ◌≡◌ {A = Option ℕ} None (Some a) → ⊥
-none_some a e = let z : ◌≡◌ {A = ℕ} 0 1 = cc in omega arith
-
--- a node has one parent
-pub one_parent : {A : Type 0} (nodes : Nodes A) (v : ℕ) (p q : Option ℕ) (a b : A) → slice_get nodes v ≡ Some (p, a) → slice_get nodes v ≡ Some (q, b) → p ≡ q
-one_parent {A} nodes v p q a b e f =
-    let s : ◌≡◌ {A = Option (Option ℕ × A)} (Some (p, a)) (Some (q, b)) = sym e ∙ f in
-    let t : ◌≡◌ {A = Option ℕ × A} (p, a) (q, b) = cc in
-    ap (λ (z : Option ℕ × A). z.0) t
-
-pub first_in : (vs : List ℕ) (u : ℕ) → innermost vs ≡ Some u → In u vs
-first_in [] u e = none_some u e
-first_in (v ∷ vs) u e = inl (sym (some_inj v u e))
-
--- the parent of an open node is open
-pub path_up : (m : Tree) (vs : List ℕ) → Chain m vs → (d u a : ℕ) → In d vs → slice_get m.nodes d ≡ Some (Some u, a) → In u vs
-path_up m [] c d u a i p = i
-path_up m (v ∷ vs) c d u a (inl e) p =
-    inr (first_in vs u (one_parent m.nodes v (innermost vs) (Some u) c.0.0 a c.0.1 (ap (slice_get m.nodes) (sym e) ∙ p)))
-path_up m (v ∷ vs) c d u a (inr i) p = inr (path_up m vs c.2 d u a i p)
-
--- outer open nodes have lower numbers
-pub chain_less : (m : Tree) → ParentsFirst m.nodes → (v : ℕ) (vs : List ℕ) → Chain m (v ∷ vs) → (d : ℕ) → In d vs → d < v
-chain_less m o v [] c d i = absurd i
-chain_less m o v (u ∷ us) c d (inl e) = let l : u < v = o v u c.0.0 c.0.1 in omega arith
-chain_less m o v (u ∷ us) c d (inr i) =
-    let l : u < v = o v u c.0.0 c.0.1 in
-    let k : d < u = chain_less m o u us c.2 d i in
-    omega arith
 
 pub level_keep : (rule : List RuleNode) (m m' : Tree) (u : ℕ) (l : Level)
     → ((p : Option ℕ) (a : ℕ) → slice_get m.nodes u ≡ Some (p, a) → slice_get m'.nodes u ≡ Some (p, a))

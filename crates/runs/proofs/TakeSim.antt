@@ -4,9 +4,9 @@ use Rattle.std.proofs.lemmas.List.{take_all, drop_all}
 use Rattle.std.proofs.lemmas.Bool.{cases_lt}
 use Rattle.rules.specs.declared.node.RuleNode.{RuleNode}
 use Rattle.runs.specs.declared.call.Call.TheVariants as call
-use Rattle.runs.specs.declared.call.Answer.TheVariants.{Taken}
 use Rattle.runs.specs.Bits.{Has}
 use Rattle.runs.specs.Words.{Words, Takes}
+use Rattle.runs.specs.Answers.{taken}
 use Rattle.runs.specs.Model.{taking, Does}
 use Rattle.runs.specs.Stands.{Tree, Chain, Shows}
 use Rattle.runs.proofs.PathLaws.{levels_keep}
@@ -30,8 +30,8 @@ module _ (rule : List RuleNode) (m : Tree) (s s' : Words) (xs ys : List ℕ) (n 
   count : n ≡ min (length m.waiting) (length xs)
   count = k.count ∙ ap (λ (ws : List ℕ). min (length ws) (length xs)) h.waiting
 
-  pub take_does : Does rule Has m (call.Take (length xs)) (Taken n) (taking m (length xs))
-  take_does = subst (λ (r : ℕ). Does rule Has m (call.Take (length xs)) (Taken r) (taking m (length xs))) (sym count) (Does.takes (length xs))
+  pub take_does : Does rule Has m (call.Take (length xs)) (taken n) (taking m (length xs))
+  take_does = subst (λ (r : ℕ). Does rule Has m (call.Take (length xs)) (taken r) (taking m (length xs))) (sym count) (Does.takes (length xs))
 
   pub take_list : ys ≡ take n m.waiting ++ drop n xs
   take_list = k.list ∙ ap (λ (ws : List ℕ). take n ws ++ drop n xs) h.waiting

@@ -1,4 +1,7 @@
+pub mod Limits
 pub mod Refusals
+pub mod Picks
+pub mod Answers
 pub mod Bits
 pub mod Edges
 pub mod Words

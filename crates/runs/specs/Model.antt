@@ -1,19 +1,13 @@
 -- The reference model of a run: what calls do to a tree of nodes, and which nodes they select.
-use Rattle.std.specs.Prelude.{◌≡◌, ℕ, ◌<◌, min, Bool, true, false, ◌⊎◌, List, [], ◌∷◌, ◌++◌, length, take, drop, Some, None, Ok, Err, Option, Result}
+use Rattle.std.specs.Prelude.{◌≡◌, ℕ, ◌<◌, min, true, false, List, [], ◌∷◌, ◌++◌, length, take, drop, Some, None, Option}
 use Rattle.std.specs.List.{slice_get}
 use Rattle.rules.specs.declared.node.RuleNode.{RuleNode}
 use Rattle.rules.specs.Embedding.{Nodes, ChildIn, Occurs}
-use Rattle.runs.specs.declared.refusal.Refusal.{Refusal}
-use Rattle.runs.specs.declared.refusal.Refusal.TheVariants.{NothingOpen, WaitingFull, TooDeep, TooMany}
 use Rattle.runs.specs.declared.call.Call.{Call}
-use Rattle.runs.specs.declared.call.Call.TheVariants as call
-use Rattle.runs.specs.declared.call.Answer.{Answer}
-use Rattle.runs.specs.declared.call.Answer.TheVariants.{Opened, Closed, Dropped, Taken, Refused}
-
--- v is one of the numbers
-abbrev pub In : ℕ → List ℕ → Type 0
-In v [] = ⊥
-In v (u ∷ us) = (v ≡ u) ⊎ In v us
+use Rattle.runs.specs.declared.call.Call.TheVariants.{Open, Close, Drop, Take}
+use Rattle.runs.specs.Limits.{depth_limit, waiting_limit, openings_limit}
+use Rattle.runs.specs.Picks.{In, Once, Picks}
+use Rattle.runs.specs.Answers.{Told, opened, closed, dropped, taken, refused}
 
 -- The nodes in order of opening, each with what it carries: its label, or at a run's own calls the set of rule nodes whose
 -- tests its label meets. path: the open nodes, innermost first; closed: the closed nodes in closing order; waiting: the
@@ -64,31 +58,32 @@ module _ {A : Type 0} (m : Model A) where
   taking n = record
       { nodes = m.nodes; path = m.path; dropped = m.dropped; closed = m.closed; waiting = drop n m.waiting; handed = m.handed ++ take n m.waiting }
 
--- One call, its answer, and the model after it. A refused call alters nothing.
-pub data Does {A : Type 0} (rule : List RuleNode) (meets : A → ℕ → Type 0) (m : Model A) : Call A → Answer → Model A → Type 0 where
-  too_deep : (a : A) → length m.path ≡ 128 → Does rule meets m (call.Open a) (Refused TooDeep) m
-  too_many : (a : A) → length m.path < 128 → length m.nodes ≡ 1000000 → Does rule meets m (call.Open a) (Refused TooMany) m
-  opens : (a : A) → length m.path < 128 → length m.nodes < 1000000 → Does rule meets m (call.Open a) (Opened (length m.nodes)) (opening m a)
-  none_to_close : m.path ≡ [] → Does rule meets m call.Close (Refused NothingOpen) m
-  waiting_full : (v : ℕ) (vs : List ℕ) → m.path ≡ v ∷ vs → OccursAt rule meets m v → length m.waiting ≡ 64
-      → Does rule meets m call.Close (Refused WaitingFull) m
-  selects : (v : ℕ) (vs : List ℕ) → m.path ≡ v ∷ vs → OccursAt rule meets m v → length m.waiting < 64
-      → Does rule meets m call.Close (Closed true) (closing m v vs (v ∷ []))
+-- One call, what its answer tells, and the model after it. A refused call alters nothing.
+pub data Does {A : Type 0} (rule : List RuleNode) (meets : A → ℕ → Type 0) (m : Model A) : Call A → Told → Model A → Type 0 where
+  too_deep : (a : A) → length m.path ≡ depth_limit → Does rule meets m (Open a) (refused 22) m
+  too_many : (a : A) → length m.path < depth_limit → length m.nodes ≡ openings_limit → Does rule meets m (Open a) (refused 23) m
+  opens : (a : A) → length m.path < depth_limit → length m.nodes < openings_limit
+      → Does rule meets m (Open a) (opened (length m.nodes)) (opening m a)
+  none_to_close : m.path ≡ [] → Does rule meets m Close (refused 20) m
+  waiting_full : (v : ℕ) (vs : List ℕ) → m.path ≡ v ∷ vs → OccursAt rule meets m v → length m.waiting ≡ waiting_limit
+      → Does rule meets m Close (refused 21) m
+  selects : (v : ℕ) (vs : List ℕ) → m.path ≡ v ∷ vs → OccursAt rule meets m v → length m.waiting < waiting_limit
+      → Does rule meets m Close (closed true) (closing m v vs (v ∷ []))
   passes : (v : ℕ) (vs : List ℕ) → m.path ≡ v ∷ vs → (OccursAt rule meets m v → ⊥)
-      → Does rule meets m call.Close (Closed false) (closing m v vs [])
-  none_to_drop : m.path ≡ [] → Does rule meets m call.Drop (Refused NothingOpen) m
-  drops : (v : ℕ) (vs : List ℕ) → m.path ≡ v ∷ vs → Does rule meets m call.Drop Dropped (dropping m v vs)
-  takes : (n : ℕ) → Does rule meets m (call.Take n) (Taken (min (length m.waiting) n)) (taking m n)
+      → Does rule meets m Close (closed false) (closing m v vs [])
+  none_to_drop : m.path ≡ [] → Does rule meets m Drop (refused 20) m
+  drops : (v : ℕ) (vs : List ℕ) → m.path ≡ v ∷ vs → Does rule meets m Drop dropped (dropping m v vs)
+  takes : (n : ℕ) → Does rule meets m (Take n) (taken (min (length m.waiting) n)) (taking m n)
 
--- what the calls of a run answer, as an answer of the model
-abbrev pub opened : Result ℕ Refusal → Answer
-opened (Ok n) = Opened n
-opened (Err k) = Refused k
+module _ {A : Type 0} (rule : List RuleNode) (meets : A → ℕ → Type 0) where
+  -- calls one after another, with what their answers tell
+  pub data Plays : Model A → List (Call A) → List Told → Model A → Type 0 where
+    done : {m : Model A} → Plays m [] [] m
+    more : {m m₁ m₂ : Model A} {c : Call A} {cs : List (Call A)} {t : Told} {ts : List Told}
+        → Does rule meets m c t m₁ → Plays m₁ cs ts m₂ → Plays m (c ∷ cs) (t ∷ ts) m₂
 
-abbrev pub closed : Result Bool Refusal → Answer
-closed (Ok b) = Closed b
-closed (Err k) = Refused k
-
-abbrev pub dropped : Result (Unit {0}) Refusal → Answer
-dropped (Ok u) = Dropped
-dropped (Err k) = Refused k
+  -- The numbers handed out, and then those that wait, are the closed nodes at which the rule occurs, in closing order. No
+  -- number is closed twice, so each of them is there once.
+  pub record Selected (m : Model A) : Type 0 where
+    pub picked : Picks (OccursAt rule meets m) m.closed (m.handed ++ m.waiting)
+    pub once : Once m.closed

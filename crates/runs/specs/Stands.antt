@@ -8,7 +8,8 @@ use Rattle.runs.specs.declared.levels.Level.{Level}
 use Rattle.runs.specs.declared.levels.Levels.{Levels}
 use Rattle.runs.specs.Bits.{Has}
 use Rattle.runs.specs.Words.{Words, words}
-use Rattle.runs.specs.Model.{Model, In, innermost, KeptChild, MeetsAt}
+use Rattle.runs.specs.Picks.{In}
+use Rattle.runs.specs.Model.{Model, innermost, KeptChild, MeetsAt}
 
 -- The part of a rule from rule node x down fits at v: v meets the test of x, and each rule node under x fits at a node that
 -- its edge leads to. φ says where.
@@ -48,9 +49,9 @@ LevelsStand rule m (v ∷ vs) [] = ⊥
 LevelsStand rule m (v ∷ vs) (l ∷ ls) = LevelStands rule m v l × LevelsStand rule m vs ls
 
 -- each open node is a child of the next, and was not dropped
-abbrev pub Chain : Tree → List ℕ → Type 0
+abbrev pub Chain : {A : Type 0} → Model A → List ℕ → Type 0
 Chain m [] = Unit {0}
-Chain m (v ∷ vs) = ((a : ℕ) × (slice_get m.nodes v ≡ Some (innermost vs, a))) × (In v m.dropped → ⊥) × Chain m vs
+Chain {A} m (v ∷ vs) = ((a : A) × (slice_get m.nodes v ≡ Some (innermost vs, a))) × (In v m.dropped → ⊥) × Chain m vs
 
 -- The state s, as lists, stands for the model m.
 pub record Shows (rule : List RuleNode) (s : Words) (m : Tree) : Type 0 where

@@ -3,7 +3,8 @@ ghost use Rattle.std.specs.Prelude.{◌≡◌, length};
 ghost use Rattle.rules.specs.Embedding.{Meets};
 ghost use Rattle.rules.specs.RuleNodes.{rule_nodes};
 ghost use Rattle.runs.specs.declared.call.Call.TheVariants.{Close};
-ghost use Rattle.runs.specs.Model.{empty, closed};
+ghost use Rattle.runs.specs.Answers.{told_by, closed};
+ghost use Rattle.runs.specs.Model.{empty};
 ghost use Rattle.runs.specs.Calls.{StandsFor, Tells, Steps, Opening, Hands, Unaltered};
 
 use crate::levels::Levels;
@@ -37,7 +38,7 @@ impl<'r> Run<'r> {
 
     /// Ends the innermost open node, and says whether it is selected.
     pub fn close(&mut self) -> Result<bool, Refusal>
-        ensures step { Steps self.old Close (closed result) self.new }
+        ensures step { Steps self.old Close (told_by closed result) self.new }
         ensures refused { Unaltered self.old result self.new }
     {
         self.state.close(self.rule)
