@@ -7,6 +7,10 @@ pub mod FitLaws
 pub mod EmbedLaws
 pub mod TreeLaws
 pub mod PathLaws
+pub mod PickLaws
+pub mod SelectedLaws
+pub mod PlayLaws
+pub mod CarriedLaws
 pub mod OpenSim
 pub mod CloseSim
 pub mod TakeSim

@@ -3,6 +3,7 @@
 pub mod call;
 mod calls;
 pub mod edges;
+pub mod journal;
 mod levels;
 pub mod node_set;
 pub mod refusal;

@@ -1,0 +1,89 @@
+-- Journals of calls, made on a new run with one list of labels.
+use Rattle.std.specs.Prelude.{◌≡◌, ℕ, ◌+◌, ◌<◌, ◌≤◌, min, Bool, ◌↔◌, List, [], ◌∷◌, ◌++◌, length, take, drop, map, Some}
+use Rattle.std.specs.List.{slice_get}
+use Rattle.rules.specs.declared.node.RuleNode.{RuleNode}
+use Rattle.rules.specs.declared.rule.Rule.{Rule}
+use Rattle.rules.specs.RuleNodes.{rule_nodes}
+use Rattle.rules.specs.Embedding.{Nodes, Meets}
+use Rattle.runs.specs.declared.call.Call.{Call}
+use Rattle.runs.specs.declared.call.Call.TheVariants.{Take}
+use Rattle.runs.specs.declared.call.Answer.{Answer}
+use Rattle.runs.specs.declared.run.Run.{Run}
+use Rattle.runs.specs.declared.journal.Replay.{Replay}
+use Rattle.runs.specs.declared.journal.Shortage.{Shortage}
+use Rattle.runs.specs.declared.journal.Shortage.TheVariants.{Answers, Numbers}
+use Rattle.runs.specs.Bits.{Has}
+use Rattle.runs.specs.Answers.{Told, told}
+use Rattle.runs.specs.Model.{Model, empty, Plays, Selected}
+use Rattle.runs.specs.Stands.{Tree}
+use Rattle.runs.specs.Calls.{StandsFor}
+
+-- the nodes carry labels, and the same nodes the sets of the rule nodes whose tests these labels meet
+abbrev pub SetsOf : {L : Type 0} → List RuleNode → (L → ℕ → Type 0) → Nodes L → Nodes ℕ → Type 0
+SetsOf rule meets [] [] = Unit {0}
+SetsOf rule meets [] (s ∷ ss) = ⊥
+SetsOf rule meets (n ∷ ns) [] = ⊥
+SetsOf rule meets (n ∷ ns) (s ∷ ss) = (s.0 ≡ n.0) × ((x : ℕ) → Has s.1 x ↔ ((x < length rule) × meets n.1 x)) × SetsOf rule meets ns ss
+
+-- the state t is the state m with sets in place of labels
+pub record Carried {L : Type 0} (rule : List RuleNode) (meets : L → ℕ → Type 0) (m : Model L) (t : Tree) : Type 0 where
+  pub nodes : SetsOf rule meets m.nodes t.nodes
+  pub path : t.path ≡ m.path
+  pub dropped : t.dropped ≡ m.dropped
+  pub closed : t.closed ≡ m.closed
+  pub waiting : t.waiting ≡ m.waiting
+  pub handed : t.handed ≡ m.handed
+
+-- xs stand at the front of the list, whose rest is as before
+pub record Filled {X : Type 0} (before xs after : List X) : Type 0 where
+  pub fits : length xs ≤ length before
+  pub list : after ≡ xs ++ drop (length xs) before
+
+module _ {L : Type 0} (same : L → L → Bool) (rule : Rule) (labels : List L) where
+  abbrev pub meets : L → ℕ → Type 0
+  meets = Meets same (rule_nodes rule) labels
+
+  -- the run stands for a state whose nodes carry labels
+  abbrev pub StandsAt : Run → Model L → Type 0
+  StandsAt run m = (t : Tree) × StandsFor run t × Carried (rule_nodes rule) meets m t
+
+  -- After k of the calls: what the reference model says of them, the numbers that were handed out by then, and that these and
+  -- the waiting ones are what is selected.
+  pub record After (calls : List (Call L)) (ts : List Told) (hs : List ℕ) (k : ℕ) : Type 0 where
+    pub state : Model L
+    pub plays : Plays (rule_nodes rule) meets empty (take k calls) (take k ts) state
+    pub later : List ℕ
+    pub handed : hs ≡ state.handed ++ later
+    pub selected : Selected (rule_nodes rule) meets state
+
+  -- The reference model, fed the calls alone, comes to the state m with these answers, and to no other with others. hs were
+  -- handed out.
+  pub record Recorded (calls : List (Call L)) (ts : List Told) (hs : List ℕ) (m : Model L) : Type 0 where
+    pub plays : Plays (rule_nodes rule) meets empty calls ts m
+    pub only : (ts' : List Told) (m' : Model L) → Plays (rule_nodes rule) meets empty calls ts' m' → (ts' ≡ ts) × (m' ≡ m)
+    pub handed : hs ≡ m.handed
+    pub after : (k : ℕ) → k ≤ length calls → After calls ts hs k
+
+  -- all calls were made
+  pub record Replayed (calls : List (Call L)) (answers answers' : List Answer) (numbers numbers' : List ℕ) (r : Replay) : Type 0 where
+    pub given : List Answer
+    pub moved : List ℕ
+    pub state : Model L
+    pub recorded : Recorded calls (map told given) moved state
+    pub stands : StandsAt r.run state
+    pub handed : r.handed ≡ length moved
+    pub given_first : Filled answers given answers'
+    pub moved_first : Filled numbers moved numbers'
+
+  -- The list for the answers is too short, and nothing was done; or call k is a taking whose numbers do not fit behind those
+  -- handed out before it, and the calls before it were made.
+  pub data Unfinished (calls : List (Call L)) (answers answers' : List Answer) (numbers numbers' : List ℕ) : Shortage → Type 0 where
+    few_answers : length answers < length calls → answers' ≡ answers → numbers' ≡ numbers
+        → Unfinished calls answers answers' numbers numbers' Answers
+    few_numbers : (k n : ℕ) (given : List Answer) (moved : List ℕ) (state : Model L)
+        → length calls ≤ length answers
+        → slice_get calls k ≡ Some (Take n)
+        → Recorded (take k calls) (map told given) moved state
+        → length numbers < length moved + min (length state.waiting) n
+        → Filled answers given answers' → Filled numbers moved numbers'
+        → Unfinished calls answers answers' numbers numbers' (Numbers k (length moved))
