@@ -4,11 +4,12 @@ use Rattle.rules.specs.declared.node.RuleNode.{RuleNode}
 use Rattle.rules.specs.RuleNodes.{rule_nodes}
 use Rattle.runs.specs.declared.refusal.Refusal.{Refusal}
 use Rattle.runs.specs.declared.call.Call.{Call}
-use Rattle.runs.specs.declared.call.Call.TheVariants as call
+use Rattle.runs.specs.declared.call.Call.TheVariants.{Open, Take}
+use Rattle.runs.specs.declared.levels.Levels.{Levels}
 use Rattle.runs.specs.declared.run.Run.{Run}
 use Rattle.runs.specs.Bits.{Has}
-use Rattle.runs.specs.Answers.{Told, told_by, opened, taken}
-use Rattle.runs.specs.Model.{Does, taking}
+use Rattle.runs.specs.Answers.{Told, taken}
+use Rattle.runs.specs.Model.{Does}
 use Rattle.runs.specs.Stands.{Tree, Stands}
 
 abbrev pub nodes_of : Run → List RuleNode
@@ -21,29 +22,34 @@ StandsFor run m = Stands (nodes_of run) run.state m
 abbrev pub Tells : Run → (Tree → ℕ) → ℕ → Type 0
 Tells run f n = (m : Tree) → StandsFor run m → n ≡ f m
 
--- a run keeps its rule
-abbrev pub SameRule : Run → Run → Type 0
-SameRule run run' = run'.rule.now ≡ run.rule.now
+-- A call. Whatever state of the model s stood for, the answer tells what the model says, and s' stands for the model's next state.
+pub record Moves (rule : List RuleNode) (s : Levels) (c : Call ℕ) (t : Told) (s' : Levels) : Type 0 where
+  pub model : (m : Tree) → Stands rule s m → (m' : Tree) × Does rule Has m c t m' × Stands rule s' m'
 
--- A call. Whatever the run stood for, the answer is the model's, and the run stands for the model's next state.
-pub record Steps (run : Run) (c : Call ℕ) (t : Told) (run' : Run) : Type 0 where
-  pub rule : SameRule run run'
-  pub model : (m : Tree) → StandsFor run m → (m' : Tree) × Does (nodes_of run) Has m c t m' × StandsFor run' m'
-
--- an opening of a node whose label meets the tests of the rule nodes `meets`: the node carries them as a set
-abbrev pub Opening : (ℕ → Type 0) → Run → Result ℕ Refusal → Run → Type 0
-Opening meets run r run' = (w : ℕ) × ((x : ℕ) → Has w x ↔ ((x < length (nodes_of run)) × meets x)) × Steps run (call.Open w) (told_by opened r) run'
+-- the opening of a node whose label meets the tests of the rule nodes `meets`: the node carries them as a set
+pub record MovesOpen (rule : List RuleNode) (s : Levels) (meets : ℕ → Type 0) (t : Told) (s' : Levels) : Type 0 where
+  pub set : ℕ
+  pub members : (x : ℕ) → Has set x ↔ ((x < length rule) × meets x)
+  pub moves : Moves rule s (Open set) t s'
 
 -- a taking into the list xs, which is ys after it: its front is filled, and its rest as before
-pub record Taking (m : Tree) (xs : List ℕ) (n : ℕ) (ys : List ℕ) (run' : Run) : Type 0 where
-  pub does : Does (nodes_of run') Has m (call.Take (length xs)) (taken n) (taking m (length xs))
-  pub list : ys ≡ take n m.waiting ++ drop n xs
-  pub stands : StandsFor run' (taking m (length xs))
-
-pub record Hands (run : Run) (xs : List ℕ) (n : ℕ) (ys : List ℕ) (run' : Run) : Type 0 where
-  pub rule : SameRule run run'
+pub record MovesTake (rule : List RuleNode) (s : Levels) (xs : List ℕ) (n : ℕ) (ys : List ℕ) (s' : Levels) : Type 0 where
+  pub moves : Moves rule s (Take (length xs)) (taken n) s'
   pub fits : n ≤ length xs
-  pub model : (m : Tree) → StandsFor run m → Taking m xs n ys run'
+  pub list : (m : Tree) → Stands rule s m → ys ≡ take n m.waiting ++ drop n xs
+
+-- the same of a run, which keeps its rule
+pub record Steps (run : Run) (c : Call ℕ) (t : Told) (run' : Run) : Type 0 where
+  pub rule : run'.rule.now ≡ run.rule.now
+  pub moves : Moves (nodes_of run) run.state c t run'.state
+
+pub record Opening (run : Run) (meets : ℕ → Type 0) (t : Told) (run' : Run) : Type 0 where
+  pub rule : run'.rule.now ≡ run.rule.now
+  pub moves : MovesOpen (nodes_of run) run.state meets t run'.state
+
+pub record Taking (run : Run) (xs : List ℕ) (n : ℕ) (ys : List ℕ) (run' : Run) : Type 0 where
+  pub rule : run'.rule.now ≡ run.rule.now
+  pub moves : MovesTake (nodes_of run) run.state xs n ys run'.state
 
 -- a refused call leaves the run as it was
 abbrev pub Unaltered : {T : Type 0} → Run → Result T Refusal → Run → Type 0

@@ -1,7 +1,7 @@
 //! The calls, on the levels and the ring.
 ghost use Rattle.std.specs.Prelude.{◌≡◌, ◌<◌};
 ghost use Rattle.rules.specs.RuleNodes.{rule_nodes};
-ghost use Rattle.runs.specs.Words.{new_level, words, no_words, Opens, Closes, Takes, Waits, Merges, Kept};
+ghost use Rattle.runs.specs.Words.{new_level, words, no_words, Opens, Closes, Drops, Takes, Waits, Merges, Kept};
 
 use crate::edges::edges_met;
 use crate::levels::{DEPTH, Level, Levels, OPENINGS, WAITING};
@@ -104,6 +104,18 @@ impl Levels {
         parent.child = parent.child.union(found);
         parent.below = parent.below.union(found.union(below));
         self.depth = at;
+    }
+
+    /// Gives up the innermost open node.
+    pub fn drop_open(&mut self) -> Result<(), Refusal>
+        ensures drops { Drops (words self.old) result (words self.new) }
+        ensures kept { Kept self.old result self.new }
+    {
+        if self.depth == 0 {
+            return Err(Refusal::NothingOpen);
+        }
+        self.depth -= 1;
+        Ok(())
     }
 
     /// Moves the oldest waiting numbers to the front of `out`, as many as wait and fit, and says how many.
