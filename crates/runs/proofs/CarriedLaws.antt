@@ -1,5 +1,5 @@
 -- A state that carries sets of rule nodes does what the same state with labels does.
-use Rattle.std.proofs.Common.{◌≡◌, ℕ, suc, zero, ◌<◌, min, ◌↔◌, List, [], ◌∷◌, ◌++◌, length, take, drop, Some, Option, sym, refl, ap, ap₂, ◌∙◌, subst, arith}
+use Rattle.std.proofs.Common.{◌≡◌, ℕ, suc, zero, ◌<◌, ◌↔◌, List, [], ◌∷◌, ◌++◌, length, take, drop, Some, Option, sym, refl, ap, ap₂, ◌∙◌, subst, arith}
 use Rattle.std.specs.List.{slice_get}
 use Rattle.rules.specs.declared.node.Edge.{Edge}
 use Rattle.rules.specs.declared.node.Edge.TheVariants as edge
@@ -7,9 +7,9 @@ use Rattle.rules.specs.declared.node.RuleNode.{RuleNode}
 use Rattle.rules.specs.Rule.{parent_of, edge_of}
 use Rattle.rules.specs.Embedding.{Nodes, Below, direct, deeper, Across, Occurs}
 use Rattle.runs.specs.declared.call.Call.{Call}
-use Rattle.runs.specs.declared.call.Call.TheVariants.{Open, Close, Drop, Take}
+use Rattle.runs.specs.declared.call.Call.TheVariants.{Open, Close, Drop}
 use Rattle.runs.specs.Bits.{Has}
-use Rattle.runs.specs.Answers.{Told, taken}
+use Rattle.runs.specs.Answers.{Told}
 use Rattle.runs.specs.Picks.{In}
 use Rattle.runs.specs.Model.{Model, empty, innermost, KeptChild, MeetsAt, OccursAt, opening, closing, dropping, taking, Does}
 use Rattle.runs.specs.Stands.{Tree}
@@ -174,17 +174,12 @@ module _ {L : Type 0} (rule : List RuleNode) (meets : L → ℕ → Type 0) wher
       },
     )
 
-    pub lift_take : (n : ℕ) {r : Told} {t' : Tree} → Does rule Has t (Take n) r t' → Lifts (Take n) r t'
-    lift_take n (Does.takes k) =
-        let D : ℕ → Type 0 = λ j. Does rule meets m (Take n) (taken (min j n)) (taking m n) in (
-          taking m n,
-          subst D (sym waits) (Does.takes n),
-          record {
-            nodes = c.nodes;
-            path = c.path;
-            dropped = c.dropped;
-            closed = c.closed;
-            waiting = ap (λ (ws : List ℕ). drop n ws) c.waiting;
-            handed = ap₂ (λ (hs ws : List ℕ). hs ++ take n ws) c.handed c.waiting;
-          },
-        )
+    pub taking_carried : (n : ℕ) → Carried rule meets (taking m n) (taking t n)
+    taking_carried n = record {
+      nodes = c.nodes;
+      path = c.path;
+      dropped = c.dropped;
+      closed = c.closed;
+      waiting = ap (λ (ws : List ℕ). drop n ws) c.waiting;
+      handed = ap₂ (λ (hs ws : List ℕ). hs ++ take n ws) c.handed c.waiting;
+    }

@@ -15,3 +15,4 @@ pub mod OpenSim
 pub mod CloseSim
 pub mod TakeSim
 pub mod RunLaws
+pub mod JournalLaws

@@ -12,7 +12,7 @@ use Rattle.runs.specs.Stands.{Tree, Chain, Shows}
 use Rattle.runs.proofs.PathLaws.{levels_keep}
 
 -- as many as there are, or n
-take_min : (ws : List ℕ) (n r : ℕ) → r ≡ min (length ws) n → (take r ws ≡ take n ws) × (drop r ws ≡ drop n ws)
+pub take_min : (ws : List ℕ) (n r : ℕ) → r ≡ min (length ws) n → (take r ws ≡ take n ws) × (drop r ws ≡ drop n ws)
 take_min ws n r e =
     ⊎_elim
     (λ l. let f : r ≡ length ws = omega arith in (

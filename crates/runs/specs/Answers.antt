@@ -25,3 +25,8 @@ told (Refused k) = refused (number k)
 abbrev pub told_by : {T : Type 0} → (T → Told) → Result T Refusal → Told
 told_by tells (Ok x) = tells x
 told_by tells (Err k) = refused (number k)
+
+-- how many numbers the call moved
+abbrev pub moved : Answer → ℕ
+moved (Taken n) = n
+moved _ = 0

@@ -9,14 +9,12 @@ use Rattle.runs.specs.declared.call.Call.{Call}
 use Rattle.runs.specs.declared.call.Call.TheVariants.{Take}
 use Rattle.runs.specs.declared.call.Answer.{Answer}
 use Rattle.runs.specs.declared.run.Run.{Run}
-use Rattle.runs.specs.declared.journal.Replay.{Replay}
 use Rattle.runs.specs.declared.journal.Shortage.{Shortage}
 use Rattle.runs.specs.declared.journal.Shortage.TheVariants.{Answers, Numbers}
 use Rattle.runs.specs.Bits.{Has}
-use Rattle.runs.specs.Answers.{Told, told}
-use Rattle.runs.specs.Model.{Model, empty, Plays, Selected}
-use Rattle.runs.specs.Stands.{Tree}
-use Rattle.runs.specs.Calls.{StandsFor}
+use Rattle.runs.specs.Answers.{Told, told, moved}
+use Rattle.runs.specs.Model.{Model, empty, Does, Plays, Selected}
+use Rattle.runs.specs.Stands.{Tree, Stands}
 
 -- the nodes carry labels, and the same nodes the sets of the rule nodes whose tests these labels meet
 abbrev pub SetsOf : {L : Type 0} → List RuleNode → (L → ℕ → Type 0) → Nodes L → Nodes ℕ → Type 0
@@ -43,9 +41,30 @@ module _ {L : Type 0} (same : L → L → Bool) (rule : Rule) (labels : List L) 
   abbrev pub meets : L → ℕ → Type 0
   meets = Meets same (rule_nodes rule) labels
 
-  -- the run stands for a state whose nodes carry labels
-  abbrev pub StandsAt : Run → Model L → Type 0
-  StandsAt run m = (t : Tree) × StandsFor run t × Carried (rule_nodes rule) meets m t
+  -- the run is of this rule, and its state stands for a state whose nodes carry labels
+  pub record StandsAt (run : Run) (m : Model L) : Type 0 where
+    pub rule_is : run.rule.now ≡ rule
+    pub tree : Tree
+    pub stands : Stands (rule_nodes rule) run.state tree
+    pub carried : Carried (rule_nodes rule) meets m tree
+
+  -- One call, which moves numbers to the front of the list: the model's next state, for which the run stands.
+  pub record Made (m : Model L) (c : Call L) (a : Answer) (numbers numbers' : List ℕ) (run : Run) : Type 0 where
+    pub state : Model L
+    pub does : Does (rule_nodes rule) meets m c (told a) state
+    pub stands : StandsAt run state
+    pub hands : List ℕ
+    pub handed : state.handed ≡ m.handed ++ hands
+    pub count : moved a ≡ length hands
+    pub filled : Filled numbers hands numbers'
+
+  -- a taking that moves more numbers than the list has entries, and is not made
+  pub record Unmade (m : Model L) (c : Call L) (numbers numbers' : List ℕ) (run run' : Run) : Type 0 where
+    pub size : ℕ
+    pub taking : c ≡ Take size
+    pub short : length numbers < min (length m.waiting) size
+    pub list : numbers' ≡ numbers
+    pub run_same : run' ≡ run
 
   -- After k of the calls: what the reference model says of them, the numbers that were handed out by then, and that these and
   -- the waiting ones are what is selected.
@@ -65,13 +84,14 @@ module _ {L : Type 0} (same : L → L → Bool) (rule : Rule) (labels : List L) 
     pub after : (k : ℕ) → k ≤ length calls → After calls ts hs k
 
   -- all calls were made
-  pub record Replayed (calls : List (Call L)) (answers answers' : List Answer) (numbers numbers' : List ℕ) (r : Replay) : Type 0 where
+  pub record Replayed (calls : List (Call L)) (answers answers' : List Answer) (numbers numbers' : List ℕ)
+      (run : Run) (handed : ℕ) : Type 0 where
     pub given : List Answer
     pub moved : List ℕ
     pub state : Model L
     pub recorded : Recorded calls (map told given) moved state
-    pub stands : StandsAt r.run state
-    pub handed : r.handed ≡ length moved
+    pub stands : StandsAt run state
+    pub count : handed ≡ length moved
     pub given_first : Filled answers given answers'
     pub moved_first : Filled numbers moved numbers'
 
