@@ -11,3 +11,4 @@ pub mod OpenSim
 pub mod CloseSim
 pub mod TakeSim
 pub mod RunLaws
+pub mod Decide

@@ -8,3 +8,4 @@ pub mod Words
 pub mod Model
 pub mod Stands
 pub mod Calls
+pub mod Examples
