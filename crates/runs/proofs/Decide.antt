@@ -1,5 +1,5 @@
 -- A test for whether a rule occurs at a node of a model, and the play of accepted calls by it. Assumes nothing.
-use Rattle.std.proofs.Common.{◌≡◌, ℕ, zero, suc, ◌+◌, ◌-◌, ◌<◌, ◌≤◌, Bool, true, false, cond, not, ◌&&◌, ◌||◌, ◌==◌, ltb, ◌⊎◌, List, [], ◌∷◌, length, Some, None, Option, Decides, sym, refl, ap, ◌∙◌, subst, inl, inr, ⊎_elim, arith, eq-eqb, ne_eqb}
+use Rattle.std.proofs.Common.{◌≡◌, ℕ, zero, suc, ◌+◌, ◌-◌, ◌<◌, ◌≤◌, Bool, true, false, cond, not, ◌&&◌, ◌||◌, ◌==◌, ltb, ◌⊎◌, List, [], ◌∷◌, length, Some, None, Option, Decides, sym, refl, ap, ◌∙◌, subst, ⊎_elim, arith, eq-eqb, ne_eqb}
 use Rattle.std.specs.List.{slice_get}
 use Rattle.std.proofs.lemmas.Bool.{false≢true, and_parts, cases_lt, cond-true, cond-false, ltb-true}
 use Rattle.std.proofs.lemmas.Bool.Decides.{Decides-like, Decides-not, Decides-and, Decides-or, Decides-eqb, Decides-ltb, Decides-below_and, Decides-below_or, not_from_Decides}
@@ -7,8 +7,8 @@ use Rattle.std.proofs.lemmas.Option.{slice_get_within}
 use Rattle.rules.specs.declared.node.Edge.{Edge}
 use Rattle.rules.specs.declared.node.Edge.TheVariants as edge
 use Rattle.rules.specs.declared.node.RuleNode.{RuleNode}
-use Rattle.rules.specs.Rule.{parent_of, edge_of, any_of, Ordered}
-use Rattle.rules.specs.Embedding.{Nodes, Below, Across, Embedding, Occurs, ChildIn, Meets, ParentsFirst}
+use Rattle.rules.specs.Rule.{parent_of, edge_of, Ordered}
+use Rattle.rules.specs.Embedding.{Nodes, Below, Across, Occurs, ParentsFirst}
 use Rattle.rules.proofs.Selects.{below_from, below_last}
 use Rattle.runs.specs.declared.call.Call.{Call}
 use Rattle.runs.specs.declared.call.Call.TheVariants.{Open, Close, Drop, Take}
@@ -152,16 +152,145 @@ module _ (rule : List RuleNode) (n : ℕ) (child_test meets_test : ℕ → ℕ �
     pub occurs_decides : (v : ℕ) → Decides (occurs_test v) (Occurs rule Child Meets v)
     occurs_decides v =
         Decides-like (occurs_test v)
-        (λ h. (h.1.ψ, record {
-          root = h.1.same 0 (omega arith);
-          tests = λ x l. ⊎_elim (λ a. h.1.tests x a l)
-              (λ a. let q : 0 ≡ x = omega arith in subst (λ z. Meets z (h.1.ψ z)) q (subst (λ z. Meets 0 z) (sym (h.1.same 0 (omega arith))) h.0)) (cases_lt 0 x);
-          edges = λ x a l. h.1.edges x a l;
-        }))
-        (λ o. (subst (λ z. Meets 0 z) o.1.root (o.1.tests 0 some), record {
-          ψ = o.0;
-          same = λ x l. let q : x ≡ 0 = omega arith in ap o.0 q ∙ o.1.root;
-          tests = λ x a l. o.1.tests x l;
-          edges = λ x a l. o.1.edges x a l;
-        }))
+        (λ h. (
+          h.1.ψ,
+          record {
+            root = h.1.same 0 (omega arith);
+            tests = λ x l. ⊎_elim (λ a. h.1.tests x a l)
+                (λ a. let q : 0 ≡ x = omega arith in subst (λ z. Meets z (h.1.ψ z)) q (subst (λ z. Meets 0 z) (sym (h.1.same 0 (omega arith))) h.0)) (cases_lt 0 x);
+            edges = λ x a l. h.1.edges x a l;
+          },
+        ))
+        (λ o. (
+          subst (λ z. Meets 0 z) o.1.root (o.1.tests 0 some),
+          record {
+            ψ = o.0;
+            same = λ x l. let q : x ≡ 0 = omega arith in ap o.0 q ∙ o.1.root;
+            tests = λ x a l. o.1.tests x l;
+            edges = λ x a l. o.1.edges x a l;
+          },
+        ))
         (Decides-and _ _ (meets 0 v) (places_decides (length rule - 1) 1 (λ x. v) (omega arith) (omega arith)))
+
+------------------------------------------------------------------------
+-- a model
+
+-- whether there is a value, and it passes
+abbrev pub holds : {X : Type 0} → Option X → (X → Bool) → Bool
+holds None f = false
+holds (Some x) f = f x
+
+pub holds_decides : {X : Type 0} (o : Option X) (f : X → Bool) (P : X → Type 0) → ((x : X) → Decides (f x) (P x)) → Decides (holds o f) ((x : X) × (o ≡ Some x) × P x)
+holds_decides {X} o f P d = (gives o, λ h. subst (λ z. holds z f ≡ true) (sym h.1) ((d h.0).1 h.2))
+  where
+    gives : (o : Option X) → holds o f ≡ true → (x : X) × (o ≡ Some x) × P x
+    gives None e = absurd (false≢true e)
+    gives (Some x) e = (x, refl, (d x).0 e)
+
+abbrev in_test : ℕ → List ℕ → Bool
+in_test v [] = false
+in_test v (u ∷ us) = v == u || in_test v us
+
+in_decides : (v : ℕ) (us : List ℕ) → Decides (in_test v us) (In v us)
+in_decides v [] = (λ e. absurd (false≢true e), λ i. absurd i)
+in_decides v (u ∷ us) = Decides-or (v == u) (in_test v us) (Decides-eqb v u) (in_decides v us)
+
+module _ {A : Type 0} (rule : List RuleNode) (meets_test : A → ℕ → Bool) where
+  abbrev child_at : Model A → ℕ → ℕ → Bool
+  child_at m u v = holds (slice_get m.nodes v) (λ e. holds e.0 (λ p. p == u)) && not (in_test v m.dropped)
+
+  abbrev meets_at : Model A → ℕ → ℕ → Bool
+  meets_at m x v = holds (slice_get m.nodes v) (λ e. meets_test e.1 x)
+
+  abbrev occurs_at : Model A → ℕ → Bool
+  occurs_at m v = occurs_test rule (length m.nodes) (child_at m) (meets_at m) v
+
+  -- the model after a call that is accepted
+  abbrev close_path : Model A → List ℕ → Model A
+  close_path m [] = m
+  close_path m (v ∷ vs) = closing m v vs (cond (occurs_at m v) (v ∷ []) [])
+
+  abbrev drop_path : Model A → List ℕ → Model A
+  drop_path m [] = m
+  drop_path m (v ∷ vs) = dropping m v vs
+
+  abbrev after : Model A → Call A → Model A
+  after m (Open a) = opening m a
+  after m Close = close_path m m.path
+  after m Drop = drop_path m m.path
+  after m (Take n) = taking m n
+
+  abbrev pub after_all : Model A → List (Call A) → Model A
+  after_all m [] = m
+  after_all m (c ∷ cs) = after_all (after m c) cs
+
+  -- no parent is numbered above its child
+  abbrev parents_test : Nodes A → Bool
+  parents_test nodes = every_below (length nodes) (λ v. not (holds (slice_get nodes v) (λ e. holds e.0 (λ p. not (ltb p v)))))
+
+  abbrev accepted : Model A → Call A → Bool
+  accepted m (Open a) = ltb (length m.path) depth_limit && ltb (length m.nodes) openings_limit
+  accepted m Close = parents_test m.nodes && (ltb 0 (length m.path) && ltb (length m.waiting) waiting_limit)
+  accepted m Drop = ltb 0 (length m.path)
+  accepted m (Take n) = true
+
+  abbrev pub all_accepted : Model A → List (Call A) → Bool
+  all_accepted m [] = true
+  all_accepted m (c ∷ cs) = let r = all_accepted (after m c) cs in accepted m c && r
+
+  parents_first : (nodes : Nodes A) → parents_test nodes ≡ true → ParentsFirst nodes
+  parents_first nodes e v u a q =
+      let Late : ℕ → Type 0 = λ i. (x : Option ℕ × A) × (slice_get nodes i ≡ Some x) × ((p : ℕ) × (x.0 ≡ Some p) × (p < i → ⊥)) in
+      let late : ℕ → Bool = λ i. holds (slice_get nodes i) (λ x. holds x.0 (λ p. not (ltb p i))) in
+      let none = (every_decides (λ i. not (late i)) (λ i. Late i → ⊥)
+      (λ i. Decides-not (late i) (holds_decides _ _ _ (λ x. holds_decides _ _ _ (λ p. Decides-not (ltb p i) (Decides-ltb p i))))) (length nodes)).0 e in
+      ⊎_elim (λ l. l) (λ l. absurd (none v (slice_get_within nodes v _ q) ((Some u, a), q, (u, refl, λ h. omega arith)))) (cases_lt u v)
+
+  module _ (meets : A → ℕ → Type 0) (decides : (a : A) (x : ℕ) → Decides (meets_test a x) (meets a x)) (ordered : Ordered rule) (some : 0 < length rule) where
+    child_decides : (m : Model A) (u v : ℕ) → Decides (child_at m u v) (KeptChild m u v)
+    child_decides m u v =
+        Decides-and _ _
+        (Decides-like _
+        (λ h. let p : h.0 ≡ (Some u, h.0.1) = let q = h.2 in let r : h.0.0 ≡ Some u = q.1 ∙ ap (λ z. Some z) q.2 in ap (λ z. (z, h.0.1)) r in
+        (h.0.1, h.1 ∙ ap (λ z. Some z) p))
+        (λ h. ((Some u, h.0), h.1, (u, refl, refl)))
+        (holds_decides (slice_get m.nodes v) _ (λ x. (p : ℕ) × (x.0 ≡ Some p) × (p ≡ u)) (λ x. holds_decides x.0 _ _ (λ p. Decides-eqb p u))))
+        (Decides-not _ (in_decides v m.dropped))
+
+    meets_decides : (m : Model A) (x v : ℕ) → Decides (meets_at m x v) (MeetsAt meets m x v)
+    meets_decides m x v =
+        Decides-like _ (λ h. (h.0.0, h.0.1, h.1, h.2)) (λ h. ((h.0, h.1), h.2, h.3))
+        (holds_decides (slice_get m.nodes v) _ (λ e. meets e.1 x) (λ e. decides e.1 x))
+
+    occurs_at_decides : (m : Model A) → parents_test m.nodes ≡ true → (v : ℕ) → Decides (occurs_at m v) (OccursAt rule meets m v)
+    occurs_at_decides m e v =
+        occurs_decides rule (length m.nodes) (child_at m) (meets_at m) (KeptChild m) (MeetsAt meets m) ordered some
+        (child_decides m) (meets_decides m)
+        (λ u w k. parents_first m.nodes e w u k.0.0 k.0.1) (λ x w h. slice_get_within m.nodes w _ h.2) v
+
+    closes : (m : Model A) (p : List ℕ) → m.path ≡ p → parents_test m.nodes ≡ true → 0 < length p → length m.waiting < waiting_limit
+        → (t : Told) × Does rule meets m Close t (close_path m p)
+    closes m [] q e pos l = absurd (omega arith)
+    closes m (v ∷ vs) q e pos l = go (occurs_at m v) refl
+      where
+        go : (b : Bool) → occurs_at m v ≡ b → (t : Told) × Does rule meets m Close t (closing m v vs (cond b (v ∷ []) []))
+        go true h = (_, selects v vs q ((occurs_at_decides m e v).0 h) l)
+        go false h = (_, passes v vs q (not_from_Decides _ (occurs_at_decides m e v) h))
+
+    falls : (m : Model A) (p : List ℕ) → m.path ≡ p → 0 < length p → (t : Told) × Does rule meets m Drop t (drop_path m p)
+    falls m [] q pos = absurd (omega arith)
+    falls m (v ∷ vs) q pos = (_, drops v vs q)
+
+    does : (m : Model A) (c : Call A) → accepted m c ≡ true → (t : Told) × Does rule meets m c t (after m c)
+    does m (Open a) e = let r = and_parts _ _ e in (_, opens a (ltb-true _ _ r.0) (ltb-true _ _ r.1))
+    does m Close e = let r = and_parts _ _ e in let s = and_parts _ _ r.1 in closes m m.path refl r.0 (ltb-true _ _ s.0) (ltb-true _ _ s.1)
+    does m Drop e = falls m m.path refl (ltb-true _ _ e)
+    does m (Take n) e = (_, takes n)
+
+    pub plays : (m : Model A) (cs : List (Call A)) → all_accepted m cs ≡ true → (ts : List Told) × Plays rule meets m cs ts (after_all m cs)
+    plays m [] e = ([], done)
+    plays m (c ∷ cs) e =
+        let r = and_parts _ _ e in
+        let d = does m c r.0 in
+        let p = plays (after m c) cs r.1 in
+        (d.0 ∷ p.0, more d.1 p.1)

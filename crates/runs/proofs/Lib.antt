@@ -12,3 +12,4 @@ pub mod CloseSim
 pub mod TakeSim
 pub mod RunLaws
 pub mod Decide
+pub mod Examples
