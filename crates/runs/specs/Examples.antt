@@ -11,8 +11,8 @@ use Rattle.runs.specs.declared.call.Call.TheVariants.{Open, Close, Drop}
 use Rattle.runs.specs.Answers.{Told}
 use Rattle.runs.specs.Model.{Model, empty, Plays}
 
--- A tree as a text, and its calls: a letter opens a node of that name, whose children stand behind it in brackets. A space
--- means nothing.
+-- A tree as a text: a letter is a node of that name, and behind it stand its children in brackets, if it has any. A space
+-- means nothing. The calls of one byte, before the byte next:
 abbrev pub calls_of : ℕ → ℕ → List (Call (List ℕ))
 calls_of b next =
     if b == byte " " || b == byte "(" then []
@@ -20,6 +20,7 @@ calls_of b next =
     else if next == byte "(" then Open (b ∷ []) ∷ []
     else Open (b ∷ []) ∷ Close ∷ []
 
+-- the calls of a tree
 abbrev pub tree : List ℕ → List (Call (List ℕ))
 tree [] = []
 tree (b ∷ bs) = calls_of b (slice_index bs 0) ++ tree bs
@@ -27,8 +28,8 @@ tree (b ∷ bs) = calls_of b (slice_index bs 0) ++ tree bs
 abbrev pub names : List ℕ → List ParsedNode → List (List ℕ)
 names text ns = map (λ n. token_bytes text n.test) ns
 
--- The text gives a rule, and from the empty model on the calls select the nodes of these numbers, in closing order. A label
--- is a name, as its bytes.
+-- The text gives a rule, and the calls, from the empty model on, select the nodes with these numbers, in closing order.
+-- Labels are names, as their bytes.
 abbrev pub Reports : List ℕ → List (Call (List ℕ)) → List ℕ → Type 0
 Reports text calls numbers =
     (ns : List ParsedNode) × TextGives text ns
@@ -36,10 +37,10 @@ Reports text calls numbers =
     × Plays (plain_nodes ns) (Meets bytes_eq (plain_nodes ns) (names text ns)) empty calls ts m
     × (m.handed ++ m.waiting ≡ numbers)
 
--- nodes are numbered by their openings, from 0
+-- the trees of some texts; nodes are numbered from 0 on as they are opened
 pub record WorkedTrees : Type 0 where
   pub nested : Reports (codes "//a[a]") (tree (codes "a(a(a))")) (1 ∷ 0 ∷ [])
-  -- both predicates by one child
+  -- one child is enough for both predicates
   pub shared : Reports (codes "//a[b][b]") (tree (codes "a(b)")) (0 ∷ [])
   -- no b has both children
   pub one_branch : Reports (codes "//a[b[c][d]]") (tree (codes "a(b(c) b(d))")) []
