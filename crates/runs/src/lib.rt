@@ -4,6 +4,7 @@ pub mod call;
 mod calls;
 pub mod edges;
 pub mod journal;
+pub mod laws;
 mod levels;
 pub mod node_set;
 pub mod refusal;
