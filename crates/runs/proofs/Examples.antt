@@ -50,24 +50,24 @@ module _ (text : List ℕ) (calls : List (Call (List ℕ))) (numbers : List ℕ)
   end = after_all rule test empty calls
 
   reports : (ltb 0 (length text) && leb (length text) text_limit) ≡ true → run (lex 0 0 text) start ≡ accepts parsed
-      → all_accepted rule test empty calls ≡ true → end.handed ++ end.waiting ≡ numbers → Reports text calls numbers
-  reports fits reads plays_on gives =
+      → all_accepted rule test empty calls ≡ true → end.path ≡ [] → end.handed ++ end.waiting ≡ numbers → Reports text calls numbers
+  reports fits reads plays_on closed gives =
       let f = and_parts _ _ fits in
       let long : 0 < length text = ltb-true _ _ f.0 in
       let g : TextGives text parsed = accepting text parsed (fit text (λ z. omega arith) (leb-true _ _ f.1)) reads in
       let some : 0 < length rule = omega (arith, given_some g, length-map parsed plain) in
       let p = plays rule test (Meets bytes_eq rule labels) (given_ordered g) some (meets_decides rule labels) empty calls plays_on in
-      (parsed, g, p.0, end, p.1, gives)
+      (parsed, g, p.0, end, p.1, closed, gives)
 
 pub worked : WorkedTrees
 worked = record {
-  nested = reports _ _ _ refl refl refl refl;
-  shared = reports _ _ _ refl refl refl refl;
-  one_branch = reports _ _ _ refl refl refl refl;
-  either_branch = reports _ _ _ refl refl refl refl;
-  not_child = reports _ _ _ refl refl refl refl;
-  descends = reports _ _ _ refl refl refl refl;
-  proper = reports _ _ _ refl refl refl refl;
-  inner = reports _ _ _ refl refl refl refl;
-  dropped_child = reports _ _ _ refl refl refl refl;
+  nested = reports _ _ _ refl refl refl refl refl;
+  shared = reports _ _ _ refl refl refl refl refl;
+  one_branch = reports _ _ _ refl refl refl refl refl;
+  either_branch = reports _ _ _ refl refl refl refl refl;
+  not_child = reports _ _ _ refl refl refl refl refl;
+  descends = reports _ _ _ refl refl refl refl refl;
+  proper = reports _ _ _ refl refl refl refl refl;
+  inner = reports _ _ _ refl refl refl refl refl;
+  dropped_child = reports _ _ _ refl refl refl refl refl;
 }

@@ -15,9 +15,6 @@ pub mod OpenSim
 pub mod CloseSim
 pub mod TakeSim
 pub mod RunLaws
-<<<<<<< HEAD
 pub mod JournalLaws
-=======
 pub mod Decide
 pub mod Examples
->>>>>>> d5895bc7446cf139dd256d55cca4c6eb9065ece7

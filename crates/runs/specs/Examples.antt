@@ -28,14 +28,14 @@ tree (b ∷ bs) = calls_of b (slice_index bs 0) ++ tree bs
 abbrev pub names : List ℕ → List ParsedNode → List (List ℕ)
 names text ns = map (λ n. token_bytes text n.test) ns
 
--- The text gives a rule, and the calls, from the empty model on, select the nodes with these numbers, in closing order.
--- Labels are names, as their bytes.
+-- The text gives a rule, and the calls, from the empty model on until nothing is open, select the nodes with these numbers,
+-- in closing order. Labels are names, as their bytes.
 abbrev pub Reports : List ℕ → List (Call (List ℕ)) → List ℕ → Type 0
 Reports text calls numbers =
     (ns : List ParsedNode) × TextGives text ns
     × (ts : List Told) × (m : Model (List ℕ))
     × Plays (plain_nodes ns) (Meets bytes_eq (plain_nodes ns) (names text ns)) empty calls ts m
-    × (m.handed ++ m.waiting ≡ numbers)
+    × (m.path ≡ []) × (m.handed ++ m.waiting ≡ numbers)
 
 -- the trees of some texts; nodes are numbered from 0 on as they are opened
 pub record WorkedTrees : Type 0 where
