@@ -16,5 +16,6 @@ pub mod CloseSim
 pub mod TakeSim
 pub mod RunLaws
 pub mod JournalLaws
+pub mod ReplayLaws
 pub mod Decide
 pub mod Examples

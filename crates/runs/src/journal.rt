@@ -11,7 +11,7 @@ use rules::rule::Rule;
 
 /// What is left of a whole journal: the run after its last call, and how many numbers its takings moved.
 #[derive(Drop)]
-pub struct Replay<'r> {
+pub struct Outcome<'r> {
     pub run: Run<'r>,
     pub handed: usize,
 }
@@ -52,4 +52,52 @@ impl<'r> Run<'r> {
             }
         }
     }
+
+    // Makes the calls one after another on a run that has made none. Each answer goes to the call's number in `answers`; the
+    // numbers that the takings move go to the front of `numbers`, and their count is the result.
+    fn make_all<L: LabelKind>(
+        &mut self,
+        labels: &[L],
+        calls: &[Call<L>],
+        answers: &mut [Answer],
+        numbers: &mut [u32],
+    ) -> Result<usize, Shortage>
+        requires new { StandsFor self.old empty }
+        requires room { length calls.now ≤ length answers.old }
+        ensures { MatchResult result
+            (Replayed L.eq self.old.rule.now labels.now calls.now answers.old answers.new numbers.old numbers.new self.new)
+            (Unfinished L.eq self.old.rule.now labels.now calls.now answers.old answers.new numbers.old numbers.new) }
+    {
+        let mut handed = 0;
+        for (i, call) in calls.iter().enumerate() {
+            let Some(answer) = self.make(labels, call, &mut numbers[handed..]) else {
+                return Err(Shortage::Numbers(i, handed));
+            };
+            answers[i] = answer;
+            handed += answer.moved();
+        }
+        Ok(handed)
+    }
+}
+
+/// Makes a new run of the rule, and makes the calls of the journal on it, openings with this list of labels. The answers go to
+/// the front of `answers`, and the numbers that the takings move to the front of `numbers`.
+#[tactic(auto, using(crate::proofs::ReplayLaws::few_answers))]
+pub fn replay<'r, L: LabelKind>(
+    rule: &'r Rule,
+    labels: &[L],
+    calls: &[Call<L>],
+    answers: &mut [Answer],
+    numbers: &mut [u32],
+) -> Result<Outcome<'r>, Shortage>
+    ensures { MatchResult result
+        (λ r. Replayed L.eq rule.now labels.now calls.now answers.old answers.new numbers.old numbers.new r.run r.handed)
+        (Unfinished L.eq rule.now labels.now calls.now answers.old answers.new numbers.old numbers.new) }
+{
+    if answers.len() < calls.len() {
+        return Err(Shortage::Answers);
+    }
+    let mut run = Run::new(rule);
+    let handed = run.make_all(labels, calls, answers, numbers)?;
+    Ok(Outcome { run, handed })
 }
