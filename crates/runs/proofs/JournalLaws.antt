@@ -16,7 +16,8 @@ use Rattle.runs.specs.Answers.{Told, told, told_by, moved, opened, closed, dropp
 use Rattle.runs.specs.Model.{Model, Does, taking}
 use Rattle.runs.specs.Stands.{Tree, Stands}
 use Rattle.runs.specs.Calls.{nodes_of, Moves, Opening, Steps, Taking}
-use Rattle.runs.specs.Journal.{Filled, meets, StandsAt, Made, Carried}
+use Rattle.runs.specs.Journal.{Filled, meets, StandsAt, Carried}
+use Rattle.runs.specs.MadeCall.{Made}
 use Rattle.runs.proofs.CarriedLaws.{lift_open, lift_close, lift_drop, taking_carried}
 use Rattle.runs.proofs.TakeSim.{take_min}
 

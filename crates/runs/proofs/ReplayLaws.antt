@@ -15,7 +15,8 @@ use Rattle.runs.specs.declared.journal.Shortage.TheVariants.{Answers, Numbers}
 use Rattle.runs.specs.Answers.{Told, told, moved}
 use Rattle.runs.specs.Model.{Model, empty, Plays}
 use Rattle.runs.specs.Stands.{Tree, Stands}
-use Rattle.runs.specs.Journal.{Filled, meets, StandsAt, Made, Unmade, After, Recorded, Replayed, Unfinished}
+use Rattle.runs.specs.Journal.{Filled, meets, StandsAt, Recorded, Replayed, Unfinished}
+use Rattle.runs.specs.MadeCall.{Made, Unmade}
 use Rattle.runs.proofs.NthLaws.{get_or_slice_get}
 use Rattle.runs.proofs.CarriedLaws.{empty_carried}
 use Rattle.runs.proofs.PlayLaws.{plays_more, plays_one, begun}

@@ -12,8 +12,8 @@ use Rattle.runs.specs.declared.run.Run.{Run}
 use Rattle.runs.specs.declared.journal.Shortage.{Shortage}
 use Rattle.runs.specs.declared.journal.Shortage.TheVariants.{Answers, Numbers}
 use Rattle.runs.specs.Bits.{Has}
-use Rattle.runs.specs.Answers.{Told, told, moved}
-use Rattle.runs.specs.Model.{Model, empty, Does, Plays, Selected}
+use Rattle.runs.specs.Answers.{Told, told}
+use Rattle.runs.specs.Model.{Model, empty, Plays, Selected}
 use Rattle.runs.specs.Stands.{Tree, Stands}
 
 -- the nodes carry labels, and the same nodes the sets of the rule nodes whose tests these labels meet
@@ -47,24 +47,6 @@ module _ {L : Type 0} (same : L → L → Bool) (rule : Rule) (labels : List L) 
     pub tree : Tree
     pub stands : Stands (rule_nodes rule) run.state tree
     pub carried : Carried (rule_nodes rule) meets m tree
-
-  -- One call, which moves numbers to the front of the list: the model's next state, for which the run stands.
-  pub record Made (m : Model L) (c : Call L) (a : Answer) (numbers numbers' : List ℕ) (run : Run) : Type 0 where
-    pub state : Model L
-    pub does : Does (rule_nodes rule) meets m c (told a) state
-    pub stands : StandsAt run state
-    pub hands : List ℕ
-    pub handed : state.handed ≡ m.handed ++ hands
-    pub count : moved a ≡ length hands
-    pub filled : Filled numbers hands numbers'
-
-  -- a taking that moves more numbers than the list has entries, and is not made
-  pub record Unmade (m : Model L) (c : Call L) (numbers numbers' : List ℕ) (run run' : Run) : Type 0 where
-    pub size : ℕ
-    pub taking : c ≡ Take size
-    pub short : length numbers < min (length m.waiting) size
-    pub list : numbers' ≡ numbers
-    pub run_same : run' ≡ run
 
   -- After k of the calls: what the reference model says of them, the numbers that were handed out by then, and that these and
   -- the waiting ones are what is selected.

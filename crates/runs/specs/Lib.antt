@@ -8,5 +8,7 @@ pub mod Words
 pub mod Model
 pub mod Stands
 pub mod Calls
+pub mod Shortages
 pub mod Journal
+pub mod MadeCall
 pub mod Examples

@@ -1,13 +1,17 @@
 //! Journals of calls, made on a new run.
-ghost use Rattle.std.specs.Prelude.{◌≡◌, ℕ, ◌≤◌, length, MatchOption, MatchResult};
+ghost use Rattle.std.specs.Prelude.{◌≡◌, ℕ, ◌≤◌, length, MatchOption, MatchResult, Some};
+ghost use Rattle.runs.specs.Shortages.{shortage_text};
 ghost use Rattle.runs.specs.Model.{Model, empty};
 ghost use Rattle.runs.specs.Calls.{StandsFor};
-ghost use Rattle.runs.specs.Journal.{StandsAt, Made, Unmade, Replayed, Unfinished};
+ghost use Rattle.runs.specs.Journal.{StandsAt, Replayed, Unfinished};
+ghost use Rattle.runs.specs.MadeCall.{Made, Unmade};
 
 use crate::call::{Answer, Call};
 use crate::run::Run;
 use labels::kind::LabelKind;
 use rules::rule::Rule;
+use std::error::Error;
+use std::fmt;
 
 /// What is left of a whole journal: the run after its last call, and how many numbers its takings moved.
 #[derive(Drop)]
@@ -21,10 +25,26 @@ pub struct Outcome<'r> {
 pub enum Shortage {
     /// The list for the answers has fewer entries than the journal has calls.
     Answers,
-    /// The taking with the first number moves more numbers than fit behind those that were handed out before it, whose count
-    /// is the second.
-    Numbers(usize, usize),
+    /// The taking with this number in the journal moves more numbers than fit behind those that were handed out before it,
+    /// whose count this is.
+    Numbers { call: usize, handed: usize },
 }
+
+/// Which list is short.
+impl fmt::Display for Shortage {
+    ghost output = { λ shortage. Some (shortage_text shortage) };
+
+    fn fmt<W: fmt::Write>(&self, f: &mut fmt::Formatter<W>) -> fmt::Result {
+        match self {
+            Shortage::Answers => write!(f, "the answers do not fit"),
+            Shortage::Numbers { call, handed: _ } => {
+                write!(f, "the numbers of call {call} do not fit")
+            }
+        }
+    }
+}
+
+impl Error for Shortage {}
 
 impl<'r> Run<'r> {
     // Makes a call, and says what it answers; the numbers that a taking moves go to the front of `out`. A taking whose numbers
@@ -71,7 +91,7 @@ impl<'r> Run<'r> {
         let mut handed = 0;
         for (i, call) in calls.iter().enumerate() {
             let Some(answer) = self.make(labels, call, &mut numbers[handed..]) else {
-                return Err(Shortage::Numbers(i, handed));
+                return Err(Shortage::Numbers { call: i, handed });
             };
             answers[i] = answer;
             handed += answer.moved();

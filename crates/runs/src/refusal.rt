@@ -1,12 +1,21 @@
 //! Why a run refuses a call: for its state.
-ghost use Rattle.std.specs.Prelude.{◌≡◌};
+ghost use Rattle.std.specs.Prelude.{◌≡◌, Some};
+ghost use Rattle.std.specs.Fmt.{decimal};
 ghost use Rattle.runs.specs.Refusals.{number};
 
+use std::error::Error;
+use std::fmt;
+
+/// Why a run refuses a call.
 #[derive(Clone, Copy, PartialEq, Eq, Debug)]
 pub enum Refusal {
+    /// There is no open node to close or to drop.
     NothingOpen,
+    /// A selected node closes while as many numbers wait as can.
     WaitingFull,
+    /// As many nodes are open as can be.
     TooDeep,
+    /// As many openings were accepted as can be.
     TooMany,
 }
 
@@ -22,3 +31,14 @@ impl Refusal {
         }
     }
 }
+
+/// The number.
+impl fmt::Display for Refusal {
+    ghost output = { λ refusal. Some (decimal (number refusal)) };
+
+    fn fmt<W: fmt::Write>(&self, f: &mut fmt::Formatter<W>) -> fmt::Result {
+        write!(f, "{}", self.number())
+    }
+}
+
+impl Error for Refusal {}
