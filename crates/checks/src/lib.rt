@@ -8,4 +8,8 @@ mod names;
 #[cfg(test)]
 mod records;
 #[cfg(test)]
+mod runs;
+#[cfg(test)]
 mod texts;
+#[cfg(test)]
+mod trees;
