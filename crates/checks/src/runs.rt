@@ -149,20 +149,23 @@ fn a_journal_is_replayed(rt: HostRuntime) {
         Err(shortage) => assert_eq!(rt; shortage, Shortage::Answers),
     }
     assert_eq!(rt; numbers, [1, 0, 9, 9]);
-    assert_eq!(rt; answers, [
-        Answer::Refused(Refusal::NothingOpen),
-        Answer::Opened(0),
-        Answer::Opened(1),
-        Answer::Closed(true),
-        Answer::Taken(0),
-        Answer::Taken(1),
-        Answer::Opened(2),
-        Answer::Dropped,
-        Answer::Closed(true),
-        Answer::Refused(Refusal::NothingOpen),
-        Answer::Taken(1),
-        Answer::Dropped,
-    ]);
+    assert_eq!(rt;
+        answers,
+        [
+            Answer::Refused(Refusal::NothingOpen),
+            Answer::Opened(0),
+            Answer::Opened(1),
+            Answer::Closed(true),
+            Answer::Taken(0),
+            Answer::Taken(1),
+            Answer::Opened(2),
+            Answer::Dropped,
+            Answer::Closed(true),
+            Answer::Refused(Refusal::NothingOpen),
+            Answer::Taken(1),
+            Answer::Dropped,
+        ]
+    );
 }
 
 #[test]

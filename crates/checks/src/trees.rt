@@ -78,7 +78,10 @@ fn trees(rt: HostRuntime) {
     assert_eq!(rt; selected(b"//a[a]", b"a(a(a))"), [1, 0, NONE, NONE]);
     assert_eq!(rt; selected(b"//a[b][b]", b"a(b)"), [0, NONE, NONE, NONE]);
     assert_eq!(rt; selected(b"//a[b[c][d]]", b"a(b(c) b(d))"), [NONE; 4]);
-    assert_eq!(rt; selected(b"//a[b/c][b/d]", b"a(b(c) b(d))"), [0, NONE, NONE, NONE]);
+    assert_eq!(rt;
+        selected(b"//a[b/c][b/d]", b"a(b(c) b(d))"),
+        [0, NONE, NONE, NONE]
+    );
     assert_eq!(rt; selected(b"//a[c]", b"a(b(c))"), [NONE; 4]);
     assert_eq!(rt; selected(b"//a[.//c]", b"a(b(c))"), [0, NONE, NONE, NONE]);
     assert_eq!(rt; selected(b"//a[.//a]", b"a"), [NONE; 4]);

@@ -3,6 +3,7 @@
 
 mod ended;
 mod folders;
+mod journals;
 mod listings;
 mod texts;
 
@@ -11,5 +12,6 @@ use std::io;
 fn main(rt: HostRuntime) -> io::Result<()> {
     texts::show(&rt)?;
     listings::show(&rt)?;
-    folders::show(&rt)
+    folders::show(&rt)?;
+    journals::show(&rt)
 }

@@ -1,5 +1,5 @@
 -- The calls of a journal, one after another.
-use Rattle.std.proofs.Common.{◌≡◌, ℕ, zero, suc, ◌+◌, ◌-◌, ◌<◌, ◌≤◌, min, Bool, List, [], ◌∷◌, ◌++◌, length, get_or, set, take, drop, map, Some, sym, refl, ap, ap₂, ◌∙◌, subst, append-nil, append_assoc, arith}
+use Rattle.std.proofs.Common.{◌≡◌, ℕ, ◌+◌, ◌-◌, ◌<◌, ◌≤◌, min, Bool, List, [], ◌∷◌, ◌++◌, length, get_or, set, take, drop, map, Some, sym, refl, ap, ap₂, ◌∙◌, subst, append-nil, append_assoc, arith}
 use Rattle.std.specs.List.{slice_get}
 use borrow.Rule.Slice.PartMut.{put_mid}
 use Rattle.std.proofs.lemmas.List.{take_rest, drop_all, map-append, take_more, take_all, drop-drop, drop_more, set_at, length-drop, length_push, length-append, take-append-drop}
@@ -14,13 +14,13 @@ use Rattle.runs.specs.declared.call.Answer.{Answer}
 use Rattle.runs.specs.declared.journal.Shortage.TheVariants.{Answers, Numbers}
 use Rattle.runs.specs.Answers.{Told, told, moved}
 use Rattle.runs.specs.Model.{Model, empty, Plays}
-use Rattle.runs.specs.Stands.{Tree, Stands}
+use Rattle.runs.specs.Stands.{Stands}
 use Rattle.runs.specs.Journal.{Filled, meets, StandsAt, Recorded, Replayed, Unfinished}
 use Rattle.runs.specs.MadeCall.{Made, Unmade}
 use Rattle.runs.proofs.NthLaws.{get_or_slice_get}
 use Rattle.runs.proofs.CarriedLaws.{empty_carried}
 use Rattle.runs.proofs.PlayLaws.{plays_more, plays_one, begun}
-use Rattle.runs.proofs.SelectedLaws.{empty_sound, plays_sound, Sound}
+use Rattle.runs.proofs.SelectedLaws.{empty_sound, plays_sound}
 
 -- a list whose part from a on is written
 pub put_end : {X : Type 0} (a : ℕ) (xs ys : List X) → put_mid a (length xs - a) xs ys ≡ take a xs ++ ys
@@ -161,6 +161,7 @@ module _ {L : Type 0} (same : L → L → Bool) (rule : Rule) (labels : List L) 
         given = p.given;
         moved = p.state.handed;
         state = p.state;
+        all = let k = p.made in omega arith;
         recorded = recorded calls (map told p.given) p.state
             (let P : List (Call L) → Type 0 = λ cs. Plays nodes tests empty cs (map told p.given) p.state in subst P (take_all i calls all) p.plays);
         stands = p.stands;
@@ -186,7 +187,7 @@ module _ {L : Type 0} (same : L → L → Bool) (rule : Rule) (labels : List L) 
           let E : ℕ → Type 0 = λ k. Unfinished same rule labels calls answers₀ answers numbers₀ (put_mid handed (length numbers - handed) numbers rest) (Numbers i k) in
           let F : List ℕ → Type 0 = λ xs. Filled numbers₀ p.state.handed xs in
           subst E (sym p.count)
-          (Unfinished.few_numbers i u.size p.given p.state.handed p.state room there (recorded (take i calls) (map told p.given) p.state p.plays) short
+          (Unfinished.few_numbers i u.size p.given p.state.handed p.state room there p.made (recorded (take i calls) (map told p.given) p.state p.plays) short
           (given_first (omega arith)) (subst F (sym whole) moved_first))
 
   pub few_answers : (calls : List (Call L)) (answers : List Answer) (numbers : List ℕ) → length answers < length calls

@@ -65,12 +65,13 @@ module _ {L : Type 0} (same : L → L → Bool) (rule : Rule) (labels : List L) 
     pub handed : hs ≡ m.handed
     pub after : (k : ℕ) → k ≤ length calls → After calls ts hs k
 
-  -- all calls were made
+  -- all calls were made, and each has its answer
   pub record Replayed (calls : List (Call L)) (answers answers' : List Answer) (numbers numbers' : List ℕ)
       (run : Run) (handed : ℕ) : Type 0 where
     pub given : List Answer
     pub moved : List ℕ
     pub state : Model L
+    pub all : length given ≡ length calls
     pub recorded : Recorded calls (map told given) moved state
     pub stands : StandsAt run state
     pub count : handed ≡ length moved
@@ -85,6 +86,7 @@ module _ {L : Type 0} (same : L → L → Bool) (rule : Rule) (labels : List L) 
     few_numbers : (k n : ℕ) (given : List Answer) (moved : List ℕ) (state : Model L)
         → length calls ≤ length answers
         → slice_get calls k ≡ Some (Take n)
+        → length given ≡ k
         → Recorded (take k calls) (map told given) moved state
         → length numbers < length moved + min (length state.waiting) n
         → Filled answers given answers' → Filled numbers moved numbers'

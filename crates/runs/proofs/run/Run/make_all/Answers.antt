@@ -1,5 +1,5 @@
-use Rattle.std.proofs.Common.{sym, refl, arith}
-use Rattle.runs.proofs.ReplayLaws.{Playing, playing_none, playing_more, made_here, unmade_here, still_fits, replayed, unfinished}
+use Rattle.std.proofs.Common.{refl, arith}
+use Rattle.runs.proofs.ReplayLaws.{playing_none, playing_more, made_here, unmade_here, still_fits, replayed, unfinished}
 use Rattle.runs.proofs.run.Run.make_all.Goals as goal
 
 pub loop-i-init : goal.loop-i-init
