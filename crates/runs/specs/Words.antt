@@ -82,16 +82,25 @@ abbrev pub Kept : {T : Type 0} → Levels → Result T Refusal → Levels → Ty
 Kept s (Ok x) s' = Unit {0}
 Kept s (Err k) s' = s' ≡ s
 
--- the two parts of a closing
-abbrev pub Waits : ℕ → Levels → Result (Unit {0}) Refusal → Levels → Type 0
-Waits n s (Ok _) s' =
-    (s.waiting < 64) × (words s' ≡ record { stack = (words s).stack; opened = s.opened; waiting = (words s).waiting ++ n ∷ [] }) × (s'.depth ≡ s.depth)
-Waits n s (Err f) s' = (f ≡ WaitingFull) × (s.waiting ≡ 64) × (s' ≡ s)
+-- the two parts of a closing: one waiting number more, unless as many wait as can
+pub record Waits (n : ℕ) (s s' : Levels) : Type 0 where
+  pub few : s.waiting < 64
+  pub stack : stacked s'.open s'.depth ≡ stacked s.open s.depth
+  pub opened : s'.opened ≡ s.opened
+  pub waiting : queued s'.ring s'.head s'.waiting ≡ queued s.ring s.head s.waiting ++ n ∷ []
+  pub depth : s'.depth ≡ s.depth
+
+pub record WaitFails (s : Levels) (f : Refusal) (s' : Levels) : Type 0 where
+  pub refused : f ≡ WaitingFull
+  pub full : s.waiting ≡ 64
+  pub kept : s' ≡ s
 
 -- the stack with its innermost node closed
 abbrev pub merged : ℕ → ℕ → List Level → List Level
 merged w b [] = []
 merged w b (l ∷ ps) = above w b ps
 
-abbrev pub Merges : ℕ → ℕ → Levels → Levels → Type 0
-Merges w b s s' = words s' ≡ record { stack = merged w b (words s).stack; opened = s.opened; waiting = (words s).waiting }
+pub record Merges (w b : ℕ) (s s' : Levels) : Type 0 where
+  pub stack : stacked s'.open s'.depth ≡ merged w b (stacked s.open s.depth)
+  pub opened : s'.opened ≡ s.opened
+  pub waiting : queued s'.ring s'.head s'.waiting ≡ queued s.ring s.head s.waiting

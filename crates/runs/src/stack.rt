@@ -1,7 +1,7 @@
 //! The calls, on the levels and the ring.
-ghost use Rattle.std.specs.Prelude.{◌≡◌, ◌<◌};
+ghost use Rattle.std.specs.Prelude.{◌≡◌, ◌<◌, MatchResult};
 ghost use Rattle.rules.specs.RuleNodes.{rule_nodes};
-ghost use Rattle.runs.specs.Words.{new_level, words, no_words, Opens, Closes, Takes, Waits, Merges, Kept};
+ghost use Rattle.runs.specs.Words.{new_level, joined, words, no_words, Opens, Closes, Drops, Takes, Waits, WaitFails, Merges, Kept};
 
 use crate::edges::edges_met;
 use crate::levels::{DEPTH, Level, Levels, OPENINGS, WAITING};
@@ -19,6 +19,18 @@ impl Level {
             child: NodeSet::empty(),
             below: NodeSet::empty(),
             number,
+        }
+    }
+
+    // The same node once a child of it is closed, at which `found` were found, and `below` at the nodes below it.
+    fn join(self, found: NodeSet, below: NodeSet) -> Level
+        ensures { result ≡ joined found below self }
+    {
+        Level {
+            met: self.met,
+            child: self.child.union(found),
+            below: self.below.union(found.union(below)),
+            number: self.number,
         }
     }
 }
@@ -39,6 +51,7 @@ impl Levels {
     }
 
     /// A new innermost open node that meets the tests `met`.
+    #[tactic(auto, using(crate::proofs::WordLaws::opens_deep, crate::proofs::WordLaws::opens_many, crate::proofs::WordLaws::opens_fine))]
     pub fn open(&mut self, met: NodeSet) -> Result<u32, Refusal>
         ensures opens { Opens met (words self.old) result (words self.new) }
         ensures kept { Kept self.old result self.new }
@@ -77,9 +90,23 @@ impl Levels {
         Ok(selected)
     }
 
+    /// Gives the innermost open node up.
+    #[tactic(auto, using(crate::proofs::WordLaws::drops_none, crate::proofs::WordLaws::drops_top))]
+    pub fn drop_open(&mut self) -> Result<(), Refusal>
+        ensures drops { Drops (words self.old) result (words self.new) }
+        ensures kept { Kept self.old result self.new }
+    {
+        if self.depth == 0 {
+            return Err(Refusal::NothingOpen);
+        }
+        self.depth -= 1;
+        Ok(())
+    }
+
     // One waiting number more, unless as many wait as can.
+    #[tactic(auto, using(crate::proofs::WordLaws::queued_wait))]
     fn wait(&mut self, number: u32) -> Result<(), Refusal>
-        ensures { Waits number self.old result self.new }
+        ensures { MatchResult result (λ _. Waits number self.old self.new) (λ f. WaitFails self.old f self.new) }
     {
         let count = self.waiting;
         if count >= WAITING {
@@ -91,6 +118,7 @@ impl Levels {
     }
 
     // Ends the innermost open node, at which `found` were found, and `below` at the nodes below it.
+    #[tactic(auto, using(crate::proofs::WordLaws::merged_below, crate::proofs::WordLaws::merged_root))]
     fn merge(&mut self, found: NodeSet, below: NodeSet)
         requires { 0 < self.old.depth }
         ensures { Merges found below self.old self.new }
@@ -100,9 +128,7 @@ impl Levels {
             self.depth = at;
             return;
         }
-        let parent = &mut self.open[at - 1];
-        parent.child = parent.child.union(found);
-        parent.below = parent.below.union(found.union(below));
+        self.open[at - 1] = self.open[at - 1].join(found, below);
         self.depth = at;
     }
 
