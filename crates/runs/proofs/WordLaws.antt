@@ -1,9 +1,14 @@
 -- The stack and the queue under the writes that the calls make.
-use Rattle.std.proofs.Common.{◌≡◌, ℕ, zero, suc, ◌+◌, ◌-◌, ◌%◌, ◌<◌, ◌≤◌, ◌≢◌, List, [], ◌∷◌, ◌++◌, length, get_or, take, drop, set, Ok, Err, sym, refl, ap, ◌∙◌, subst, ap₂, arith}
+use Rattle.std.proofs.Common.{◌≡◌, ℕ, zero, suc, ◌+◌, ◌-◌, ◌%◌, ◌<◌, ◌≤◌, ◌≢◌, List, [], ◌∷◌, ◌++◌, length, get_or, take, drop, set, Bool, true, false, ◌↔◌, Ok, Err, Result, sym, refl, ap, ◌∙◌, subst, ap₂, arith}
 use Rattle.std.proofs.lemmas.List.{get_or-set_same, get_or-set_other, drop_more, set_at, length-take-le, append_assoc, take_more, get_or_default}
 use Rattle.runs.specs.declared.levels.Level.{Level}
+use Rattle.runs.specs.declared.levels.Levels.{Levels}
+use Rattle.rules.specs.declared.node.RuleNode.{RuleNode}
+use Rattle.runs.specs.Bits.{Has}
+use Rattle.runs.specs.Edges.{EdgesMet}
+use Rattle.runs.specs.declared.refusal.Refusal.{Refusal}
 use Rattle.runs.specs.declared.refusal.Refusal.TheVariants.{NothingOpen, WaitingFull, TooDeep, TooMany}
-use Rattle.runs.specs.Words.{Words, new_level, stacked, queued, no_level, merged, joined, Opens, Drops}
+use Rattle.runs.specs.Words.{Words, new_level, stacked, queued, no_level, merged, joined, Opens, Closes, Drops, FoundAt, Innermost, Waits, WaitFails, Merges, words, above}
 
 pub length_stacked : (ls : List Level) (n : ℕ) → length (stacked ls n) ≡ n
 length_stacked ls zero = refl
@@ -135,3 +140,49 @@ pub drops_top : (n o k : ℕ) (ls : List Level) (q : List ℕ) → 0 < n → k �
     → Drops (record { stack = stacked ls n; opened = o; waiting = q }) (Ok tt) (record { stack = stacked ls k; opened = o; waiting = q })
 drops_top n o k ls q h e =
     Drops.drops (get_or ls (n - 1) no_level) (stacked ls k) (stacked_top ls n h ∙ ap (λ (j : ℕ). get_or ls (n - 1) no_level ∷ stacked ls j) (sym e))
+
+pub innermost_top : (ls : List Level) (l d : Level) (n k : ℕ) → 0 < n → k ≡ n - 1 → n ≤ length ls → l ≡ get_or ls k d → stacked ls n ≡ l ∷ stacked ls k
+innermost_top ls l d n k h e len g =
+    let lt : n - 1 < length ls = omega arith in
+    let same : get_or ls k d ≡ get_or ls (n - 1) no_level = ap (λ (j : ℕ). get_or ls j d) e ∙ get_or_default ls (n - 1) d no_level lt in
+    stacked_top ls n h ∙ ap₂ (λ (x : Level) (j : ℕ). x ∷ stacked ls j) (sym (g ∙ same)) (sym e)
+
+pub found_both : (rule : List RuleNode) (l : Level) (w e x : ℕ) → (Has w x ↔ (Has l.met x × Has e x)) → (Has e x ↔ EdgesMet rule l.child l.below x)
+    → Has w x ↔ (Has l.met x × EdgesMet rule l.child l.below x)
+found_both rule l w e x both met = (
+  λ h. let k = both.0 h in (k.0, met.0 k.1),
+  λ h. both.1 (h.0, met.1 h.1),
+)
+
+pub closes_none : (rule : List RuleNode) (n o : ℕ) (ls : List Level) (q : List ℕ) → n ≡ 0
+    → Closes rule (record { stack = stacked ls n; opened = o; waiting = q }) (Err NothingOpen) (record { stack = stacked ls n; opened = o; waiting = q })
+closes_none rule n o ls q e = Closes.none (ap (λ (k : ℕ). stacked ls k) e)
+
+module _ (rule : List RuleNode) (s : Levels) (l : Level) (w : ℕ) (top : Innermost s l) (found : FoundAt rule l w) where
+  abbrev rest : List Level
+  rest = stacked s.open (s.depth - 1)
+
+  pub closes_full : (s' : Levels) (f : Refusal) (r : Result Bool Refusal) → Has w 0 → WaitFails s f s' → r ≡ Err f → Closes rule (words s) r (words s')
+  closes_full s' f r h full e =
+      let G : Levels → Result Bool Refusal → Type 0 = λ t a. Closes rule (words s) a (words t) in
+      let same : r ≡ Err WaitingFull = e ∙ ap Err full.refused in
+      subst (λ t. G t r) (sym full.kept) (subst (λ a. G s a) (sym same)
+      (Closes.full l rest w top.top found.each h (omega (arith, length_queued s.ring s.head s.waiting, full.full))))
+
+  pub closes_selects : (t s' : Levels) → Has w 0 → Waits l.number s t → Merges w l.below t s' → Closes rule (words s) (Ok true) (words s')
+  closes_selects t s' h waits merges =
+      let after : List Level → ℕ → List ℕ → Words = λ st o q. record { stack = st; opened = o; waiting = q } in
+      let G : Words → Type 0 = λ m. Closes rule (words s) (Ok true) m in
+      let stack : stacked s'.open s'.depth ≡ above w l.below (stacked s.open (s.depth - 1)) = merges.stack ∙ ap (merged w l.below) (waits.stack ∙ top.top) in
+      let is : words s' ≡ record { stack = above w l.below (stacked s.open (s.depth - 1)); opened = s.opened; waiting = queued s.ring s.head s.waiting ++ l.number ∷ [] } =
+      λ i. after (stack i) ((merges.opened ∙ waits.opened) i) ((merges.waiting ∙ waits.waiting) i) in
+      subst G (sym is) (Closes.selects l rest w top.top found.each h (omega (arith, length_queued s.ring s.head s.waiting, waits.few)))
+
+  pub closes_passes : (s' : Levels) → (Has w 0 → ⊥) → Merges w l.below s s' → Closes rule (words s) (Ok false) (words s')
+  closes_passes s' h merges =
+      let after : List Level → ℕ → List ℕ → Words = λ st o q. record { stack = st; opened = o; waiting = q } in
+      let G : Words → Type 0 = λ m. Closes rule (words s) (Ok false) m in
+      let stack : stacked s'.open s'.depth ≡ above w l.below (stacked s.open (s.depth - 1)) = merges.stack ∙ ap (merged w l.below) top.top in
+      let is : words s' ≡ record { stack = above w l.below (stacked s.open (s.depth - 1)); opened = s.opened; waiting = queued s.ring s.head s.waiting } =
+      λ i. after (stack i) (merges.opened i) (merges.waiting i) in
+      subst G (sym is) (Closes.passes l rest w top.top found.each h)

@@ -1,5 +1,5 @@
 -- The state of a run as lists, and what each call does to it, for the contracts of the inner functions.
-use Rattle.std.specs.Prelude.{◌≡◌, ℕ, zero, suc, ◌+◌, ◌%◌, ◌<◌, min, Bool, true, false, ◌↔◌, List, [], ◌∷◌, ◌++◌, length, take, drop, Ok, Err, Result, bit_or, slice_index, slice_index_or}
+use Rattle.std.specs.Prelude.{◌≡◌, ℕ, zero, suc, ◌+◌, ◌-◌, ◌%◌, ◌<◌, min, Bool, true, false, ◌↔◌, List, [], ◌∷◌, ◌++◌, length, take, drop, Ok, Err, Result, bit_or, slice_index, slice_index_or}
 use Rattle.rules.specs.declared.node.RuleNode.{RuleNode}
 use Rattle.runs.specs.declared.levels.Level.{Level}
 use Rattle.runs.specs.declared.levels.Levels.{Levels}
@@ -82,7 +82,14 @@ abbrev pub Kept : {T : Type 0} → Levels → Result T Refusal → Levels → Ty
 Kept s (Ok x) s' = Unit {0}
 Kept s (Err k) s' = s' ≡ s
 
--- the two parts of a closing: one waiting number more, unless as many wait as can
+-- the parts of a closing: what is found at the node l, and that l is the innermost one
+pub record FoundAt (rule : List RuleNode) (l : Level) (w : ℕ) : Type 0 where
+  pub each : Found rule l w
+
+pub record Innermost (s : Levels) (l : Level) : Type 0 where
+  pub top : stacked s.open s.depth ≡ l ∷ stacked s.open (s.depth - 1)
+
+-- one waiting number more, unless as many wait as can
 pub record Waits (n : ℕ) (s s' : Levels) : Type 0 where
   pub few : s.waiting < 64
   pub stack : stacked s'.open s'.depth ≡ stacked s.open s.depth

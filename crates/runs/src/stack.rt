@@ -1,7 +1,7 @@
 //! The calls, on the levels and the ring.
 ghost use Rattle.std.specs.Prelude.{◌≡◌, ◌<◌, MatchResult};
 ghost use Rattle.rules.specs.RuleNodes.{rule_nodes};
-ghost use Rattle.runs.specs.Words.{new_level, joined, words, no_words, Opens, Closes, Drops, Takes, Waits, WaitFails, Merges, Kept};
+ghost use Rattle.runs.specs.Words.{new_level, joined, words, no_words, Opens, Closes, Drops, Takes, FoundAt, Innermost, Waits, WaitFails, Merges, Kept};
 
 use crate::edges::edges_met;
 use crate::levels::{DEPTH, Level, Levels, OPENINGS, WAITING};
@@ -32,6 +32,14 @@ impl Level {
             below: self.below.union(found.union(below)),
             number: self.number,
         }
+    }
+
+    // The rule nodes that are found at the node when it is closed: it meets their tests, and their edges are met.
+    #[tactic(auto, using(crate::proofs::WordLaws::found_both))]
+    fn found(&self, rule: &Rule) -> NodeSet
+        ensures { FoundAt (rule_nodes rule.now) self.now result }
+    {
+        self.met.intersection(edges_met(rule, self.child, self.below))
     }
 }
 
@@ -71,6 +79,7 @@ impl Levels {
     }
 
     /// Ends the innermost open node, and says whether it is selected.
+    #[tactic(auto, using(crate::proofs::WordLaws::closes_none, crate::proofs::WordLaws::closes_full, crate::proofs::WordLaws::closes_selects, crate::proofs::WordLaws::closes_passes))]
     pub fn close(&mut self, rule: &Rule) -> Result<bool, Refusal>
         ensures closes { Closes (rule_nodes rule.now) (words self.old) result (words self.new) }
         ensures kept { Kept self.old result self.new }
@@ -78,16 +87,24 @@ impl Levels {
         if self.depth == 0 {
             return Err(Refusal::NothingOpen);
         }
-        let level = self.open[self.depth - 1];
-        let found = level
-            .met
-            .intersection(edges_met(rule, level.child, level.below));
-        let selected = found.contains(0);
-        if selected {
-            self.wait(level.number)?;
+        let level = self.innermost();
+        let found = level.found(rule);
+        if !found.contains(0) {
+            self.merge(found, level.below);
+            return Ok(false);
         }
+        self.wait(level.number)?;
         self.merge(found, level.below);
-        Ok(selected)
+        Ok(true)
+    }
+
+    // The innermost open node.
+    #[tactic(auto, using(crate::proofs::WordLaws::innermost_top))]
+    fn innermost(&self) -> Level
+        requires { 0 < self.now.depth }
+        ensures { Innermost self.now result }
+    {
+        self.open[self.depth - 1]
     }
 
     /// Gives the innermost open node up.
