@@ -1,6 +1,6 @@
 -- The stack and the queue under the writes that the calls make.
-use Rattle.std.proofs.Common.{◌≡◌, ℕ, zero, suc, ◌+◌, ◌-◌, ◌%◌, ◌<◌, ◌≤◌, ◌≢◌, List, [], ◌∷◌, ◌++◌, length, get_or, take, drop, set, Bool, true, false, ◌↔◌, Ok, Err, Result, sym, refl, ap, ◌∙◌, subst, ap₂, arith}
-use Rattle.std.proofs.lemmas.List.{get_or-set_same, get_or-set_other, drop_more, set_at, length-take-le, append_assoc, take_more, get_or_default}
+use Rattle.std.proofs.Common.{◌≡◌, ℕ, zero, suc, ◌+◌, ◌-◌, ◌%◌, ◌<◌, ◌≤◌, ◌≢◌, List, [], ◌∷◌, ◌++◌, length, get_or, take, drop, set, Bool, true, false, ◌↔◌, Ok, Err, Result, sym, refl, ap, ◌∙◌, subst, ap₂, min, append-nil, arith}
+use Rattle.std.proofs.lemmas.List.{get_or-set_same, get_or-set_other, drop_more, drop_all, set_at, length-take-le, append_assoc, take_more, get_or_default}
 use Rattle.runs.specs.declared.levels.Level.{Level}
 use Rattle.runs.specs.declared.levels.Levels.{Levels}
 use Rattle.rules.specs.declared.node.RuleNode.{RuleNode}
@@ -186,3 +186,31 @@ module _ (rule : List RuleNode) (s : Levels) (l : Level) (w : ℕ) (top : Innerm
       let is : words s' ≡ record { stack = above w l.below (stacked s.open (s.depth - 1)); opened = s.opened; waiting = queued s.ring s.head s.waiting } =
       λ i. after (stack i) (merges.opened i) (merges.waiting i) in
       subst G (sym is) (Closes.passes l rest w top.top found.each h)
+
+-- a taking: one number more of those that wait, where ys is the front of the caller's list xs, as far as k numbers go
+pub taken_more : (r xs ys : List ℕ) (h n k i j p v d : ℕ) → ys ≡ take i (queued r h n) ++ drop i (take k xs) → k ≡ min n (length xs) → i < length (take k xs)
+    → p ≡ (h + i) % 64 → p < length r → v ≡ get_or r p d → j ≡ i + 1 → set ys i v ≡ take j (queued r h n) ++ drop j (take k xs)
+taken_more r xs ys h n k i j p v d e m a f b g o =
+    let q : List ℕ = queued r h n in
+    let long : length (queued r h n) ≡ n = length_queued r h n in
+    let cut : length (take k xs) ≡ k = length-take-le k xs (omega arith) in
+    let l : i < n = omega arith in
+    let same : v ≡ get_or (queued r h n) i 0 =
+    g ∙ get_or_default r p d 0 b ∙ ap (λ (m : ℕ). get_or r m 0) f ∙ sym (get_or_queued r h n i l) in
+    ap₂ (λ (zs : List ℕ) (x : ℕ). set zs i x) e same ∙ front_more q (take k xs) i (omega arith) a ∙ ap (λ (m : ℕ). take m q ++ drop m (take k xs)) (sym o)
+
+pub taken_count : (r xs : List ℕ) (h n k : ℕ) → k ≡ min n (length xs) → k ≡ min (length (queued r h n)) (length xs)
+taken_count r xs h n k e = omega (arith, length_queued r h n)
+
+pub taken_list : (r xs ys : List ℕ) (h n k i : ℕ) → ys ≡ take i (queued r h n) ++ drop i (take k xs) → k ≡ min n (length xs) → length (take k xs) ≤ i → i ≤ length (take k xs)
+    → ys ++ drop k xs ≡ take k (queued r h n) ++ drop k xs
+taken_list r xs ys h n k i e m l g =
+    let q : List ℕ = queued r h n in
+    let cut : length (take k xs) ≡ k = length-take-le k xs (omega arith) in
+    let all : i ≡ k = omega arith in
+    ap (λ (zs : List ℕ). zs ++ drop k xs)
+    (e ∙ ap (λ (p : ℕ). take p q ++ drop p (take k xs)) all ∙ ap (λ (zs : List ℕ). take k q ++ zs) (drop_all k (take k xs) (omega arith)) ∙ append-nil (take k q))
+
+pub taken_rest : (r : List ℕ) (h n k h' n' : ℕ) → h' ≡ (h + k) % 64 → n' ≡ n - k → k ≤ n → queued r h' n' ≡ drop k (queued r h n)
+taken_rest r h n k h' n' e f l =
+    ap (λ (p : ℕ). queued r h' p) f ∙ queued_mod r h' (h + k) (n - k) (omega arith) ∙ sym (drop_queued r h n k l)

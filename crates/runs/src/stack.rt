@@ -150,6 +150,7 @@ impl Levels {
     }
 
     /// Moves the oldest waiting numbers to the front of `out`, as many as wait and fit, and says how many.
+    #[tactic(auto, using(crate::proofs::WordLaws::taken_more, crate::proofs::WordLaws::taken_count, crate::proofs::WordLaws::taken_list, crate::proofs::WordLaws::taken_rest))]
     pub fn take(&mut self, out: &mut [u32]) -> usize
         ensures { Takes (words self.old) out.old result out.new (words self.new) }
     {
