@@ -10,6 +10,7 @@ use labels::kind::LabelKind;
 use rules::rule::Rule;
 
 // The rule nodes that every label meets.
+#[tactic(auto, using(rules::proofs::RuleLaws::few_nodes, crate::proofs::SetLaws::any_none, crate::proofs::SetLaws::any_yes, crate::proofs::SetLaws::any_no))]
 fn any_nodes(rule: &Rule) -> NodeSet
     ensures { (x : ℕ) → Has result x ↔ ((x < length (rule_nodes rule.now)) × (any_of (rule_nodes rule.now) x ≡ true)) }
 {
