@@ -65,7 +65,7 @@ queued_wait r x h n i m len l e f =
     ap (λ (k : ℕ). queued (set r i x) h k) f
     ∙ queued_more (set r i x) h n
     ∙ ap₂ (λ (ys : List ℕ) (a : ℕ). ys ++ a ∷ []) (queued_set r i x h n (λ j k g. omega arith))
-      (ap (λ (k : ℕ). get_or (set r i x) k 0) (sym e) ∙ get_or-set_same r i x 0 b)
+    (ap (λ (k : ℕ). get_or (set r i x) k 0) (sym e) ∙ get_or-set_same r i x 0 b)
 
 pub queued_mod : (r : List ℕ) (h h' n : ℕ) → h % 64 ≡ h' % 64 → queued r h n ≡ queued r h' n
 queued_mod r h h' zero e = refl

@@ -39,7 +39,8 @@ impl Level {
     fn found(&self, rule: &Rule) -> NodeSet
         ensures { FoundAt (rule_nodes rule.now) self.now result }
     {
-        self.met.intersection(edges_met(rule, self.child, self.below))
+        self.met
+            .intersection(edges_met(rule, self.child, self.below))
     }
 }
 
