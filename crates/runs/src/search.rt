@@ -24,13 +24,18 @@ fn any_nodes(rule: &Rule) -> NodeSet
 }
 
 /// The rule nodes whose test `label` meets, where `labels` has the labels of the tests by the numbers of the rule nodes.
+#[tactic(auto, using(rules::proofs::RuleLaws::few_nodes, crate::proofs::SetLaws::named_none, crate::proofs::SetLaws::named_past, crate::proofs::SetLaws::named_no, crate::proofs::SetLaws::named_yes, crate::proofs::SetLaws::named_all))]
 pub fn nodes_met<L: LabelKind>(rule: &Rule, labels: &[L], label: &L) -> NodeSet
     ensures { (x : ℕ) → Has result x ↔ ((x < length (rule_nodes rule.now)) × Meets L.eq (rule_nodes rule.now) labels.now label.now x) }
 {
     let count = rule.nodes().len();
     let mut met = any_nodes(rule);
     for (x, test) in labels.iter().enumerate() {
-        if x < count && label == test {
+        // labels past the rule nodes are of no test
+        if x >= count {
+            continue;
+        }
+        if label == test {
             met.insert(x);
         }
     }
