@@ -3,6 +3,7 @@ use Rattle.std.proofs.Common.{◌≡◌, ℕ, ◌+◌, ◌<◌, ◌≤◌, ◌�
 use Rattle.std.proofs.lemmas.Bool.{cases_lt, cases_eq}
 use Rattle.rules.specs.declared.node.RuleNode.{RuleNode}
 use Rattle.rules.specs.Rule.{parent_of, edge_of}
+use Rattle.rules.proofs.RuleLaws.{few_nodes}
 use Rattle.runs.specs.Bits.{bit, Has}
 use Rattle.runs.specs.Edges.{asked, EdgesMet}
 
@@ -83,3 +84,5 @@ edges_all ns ch be n u r x rest inv a b few = (
     λ g. let k = inv.0 g in let s = k.seen in k.lacks (h.1 k.node k.edge (omega arith) k.under),
   ),
 )
+
+pub ruleset lacking = (lacks_none, lacks_root, lacks_met, lacks_more, edges_all, few_nodes)

@@ -6,6 +6,7 @@ use Rattle.std.proofs.lemmas.Option.{slice_get_within, get_or_from_slice_get}
 use Rattle.rules.specs.declared.node.RuleNode.{RuleNode}
 use Rattle.rules.specs.Rule.{any_of}
 use Rattle.rules.specs.Embedding.{Meets}
+use Rattle.rules.proofs.RuleLaws.{few_nodes}
 use Rattle.runs.specs.Bits.{Has}
 use Rattle.runs.proofs.NthLaws.{get_or_slice_get}
 
@@ -110,3 +111,7 @@ module _ {T : Type 0} (same : T → T → Bool) (ns : List RuleNode) (ls : List 
           h.1,
     ),
   )
+
+pub ruleset any_nodes = (any_none, any_yes, any_no, few_nodes)
+
+pub ruleset named_nodes = (named_none, named_past, named_no, named_yes, named_all, few_nodes)

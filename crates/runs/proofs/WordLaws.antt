@@ -214,3 +214,11 @@ taken_list r xs ys h n k i e m l g =
 pub taken_rest : (r : List ℕ) (h n k h' n' : ℕ) → h' ≡ (h + k) % 64 → n' ≡ n - k → k ≤ n → queued r h' n' ≡ drop k (queued r h n)
 taken_rest r h n k h' n' e f l =
     ap (λ (p : ℕ). queued r h' p) f ∙ queued_mod r h' (h + k) (n - k) (omega arith) ∙ sym (drop_queued r h n k l)
+
+pub ruleset opening = (opens_deep, opens_many, opens_fine)
+
+pub ruleset closing = (closes_none, closes_full, closes_selects, closes_passes)
+
+pub ruleset dropping = (drops_none, drops_top)
+
+pub ruleset taking = (taken_more, taken_count, taken_list, taken_rest)

@@ -19,7 +19,7 @@ fn edge_met(edge: Edge, number: usize, child: NodeSet, below: NodeSet) -> bool
 }
 
 /// The rule nodes whose child edges all lead to rule nodes in `child` and whose descendant edges to rule nodes in `below`.
-#[tactic(auto, using(rules::proofs::RuleLaws::few_nodes, crate::proofs::EdgeLaws::lacks_none, crate::proofs::EdgeLaws::lacks_root, crate::proofs::EdgeLaws::lacks_met, crate::proofs::EdgeLaws::lacks_more, crate::proofs::EdgeLaws::edges_all))]
+#[tactic(auto, using(crate::proofs::EdgeLaws::lacking))]
 pub fn edges_met(rule: &Rule, child: NodeSet, below: NodeSet) -> NodeSet
     ensures { (x : ℕ) → Has result x ↔ EdgesMet (rule_nodes rule.now) child below x }
 {

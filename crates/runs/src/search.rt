@@ -10,7 +10,7 @@ use labels::kind::LabelKind;
 use rules::rule::Rule;
 
 // The rule nodes that every label meets.
-#[tactic(auto, using(rules::proofs::RuleLaws::few_nodes, crate::proofs::SetLaws::any_none, crate::proofs::SetLaws::any_yes, crate::proofs::SetLaws::any_no))]
+#[tactic(auto, using(crate::proofs::SetLaws::any_nodes))]
 fn any_nodes(rule: &Rule) -> NodeSet
     ensures { (x : ℕ) → Has result x ↔ ((x < length (rule_nodes rule.now)) × (any_of (rule_nodes rule.now) x ≡ true)) }
 {
@@ -24,18 +24,14 @@ fn any_nodes(rule: &Rule) -> NodeSet
 }
 
 /// The rule nodes whose test `label` meets, where `labels` has the labels of the tests by the numbers of the rule nodes.
-#[tactic(auto, using(rules::proofs::RuleLaws::few_nodes, crate::proofs::SetLaws::named_none, crate::proofs::SetLaws::named_past, crate::proofs::SetLaws::named_no, crate::proofs::SetLaws::named_yes, crate::proofs::SetLaws::named_all))]
+#[tactic(auto, using(crate::proofs::SetLaws::named_nodes))]
 pub fn nodes_met<L: LabelKind>(rule: &Rule, labels: &[L], label: &L) -> NodeSet
     ensures { (x : ℕ) → Has result x ↔ ((x < length (rule_nodes rule.now)) × Meets L.eq (rule_nodes rule.now) labels.now label.now x) }
 {
     let count = rule.nodes().len();
     let mut met = any_nodes(rule);
     for (x, test) in labels.iter().enumerate() {
-        // labels past the rule nodes are of no test
-        if x >= count {
-            continue;
-        }
-        if label == test {
+        if x < count && label == test {
             met.insert(x);
         }
     }

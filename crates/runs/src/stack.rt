@@ -60,7 +60,7 @@ impl Levels {
     }
 
     /// A new innermost open node that meets the tests `met`.
-    #[tactic(auto, using(crate::proofs::WordLaws::opens_deep, crate::proofs::WordLaws::opens_many, crate::proofs::WordLaws::opens_fine))]
+    #[tactic(auto, using(crate::proofs::WordLaws::opening))]
     pub fn open(&mut self, met: NodeSet) -> Result<u32, Refusal>
         ensures opens { Opens met (words self.old) result (words self.new) }
         ensures kept { Kept self.old result self.new }
@@ -80,7 +80,7 @@ impl Levels {
     }
 
     /// Ends the innermost open node, and says whether it is selected.
-    #[tactic(auto, using(crate::proofs::WordLaws::closes_none, crate::proofs::WordLaws::closes_full, crate::proofs::WordLaws::closes_selects, crate::proofs::WordLaws::closes_passes))]
+    #[tactic(auto, using(crate::proofs::WordLaws::closing))]
     pub fn close(&mut self, rule: &Rule) -> Result<bool, Refusal>
         ensures closes { Closes (rule_nodes rule.now) (words self.old) result (words self.new) }
         ensures kept { Kept self.old result self.new }
@@ -109,7 +109,7 @@ impl Levels {
     }
 
     /// Gives the innermost open node up.
-    #[tactic(auto, using(crate::proofs::WordLaws::drops_none, crate::proofs::WordLaws::drops_top))]
+    #[tactic(auto, using(crate::proofs::WordLaws::dropping))]
     pub fn drop_open(&mut self) -> Result<(), Refusal>
         ensures drops { Drops (words self.old) result (words self.new) }
         ensures kept { Kept self.old result self.new }
@@ -151,7 +151,7 @@ impl Levels {
     }
 
     /// Moves the oldest waiting numbers to the front of `out`, as many as wait and fit, and says how many.
-    #[tactic(auto, using(crate::proofs::WordLaws::taken_more, crate::proofs::WordLaws::taken_count, crate::proofs::WordLaws::taken_list, crate::proofs::WordLaws::taken_rest))]
+    #[tactic(auto, using(crate::proofs::WordLaws::taking))]
     pub fn take(&mut self, out: &mut [u32]) -> usize
         ensures { Takes (words self.old) out.old result out.new (words self.new) }
     {
