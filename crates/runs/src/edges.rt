@@ -27,10 +27,7 @@ pub fn edges_met(rule: &Rule, child: NodeSet, below: NodeSet) -> NodeSet
     let mut unmet = NodeSet::empty();
     for (y, node) in nodes.iter().enumerate() {
         // the root has no edge
-        if y == 0 {
-            continue;
-        }
-        if !edge_met(node.edge, y, child, below) {
+        if y > 0 && !edge_met(node.edge, y, child, below) {
             unmet.insert(node.parent);
         }
     }
