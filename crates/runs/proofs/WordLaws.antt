@@ -169,23 +169,27 @@ module _ (rule : List RuleNode) (s : Levels) (l : Level) (w : ℕ) (top : Innerm
       subst (λ t. G t r) (sym full.kept) (subst (λ a. G s a) (sym same)
       (Closes.full l rest w top.top found.each h (omega (arith, length_queued s.ring s.head s.waiting, full.full))))
 
-  pub closes_selects : (t s' : Levels) → Has w 0 → Waits l.number s t → Merges w l.below t s' → Closes rule (words s) (Ok true) (words s')
-  closes_selects t s' h waits merges =
+  pub closes_selects : (t t' s' : Levels) (b : Bool) → Has w 0 → b ≡ true → Waits l.number s t → t' ≡ t → Merges w l.below t' s'
+      → Closes rule (words s) (Ok b) (words s')
+  closes_selects t t' s' b h it waits same merges =
       let after : List Level → ℕ → List ℕ → Words = λ st o q. record { stack = st; opened = o; waiting = q } in
-      let G : Words → Type 0 = λ m. Closes rule (words s) (Ok true) m in
-      let stack : stacked s'.open s'.depth ≡ above w l.below (stacked s.open (s.depth - 1)) = merges.stack ∙ ap (merged w l.below) (waits.stack ∙ top.top) in
-      let is : words s' ≡ record { stack = above w l.below (stacked s.open (s.depth - 1)); opened = s.opened; waiting = queued s.ring s.head s.waiting ++ l.number ∷ [] } =
-      λ i. after (stack i) ((merges.opened ∙ waits.opened) i) ((merges.waiting ∙ waits.waiting) i) in
-      subst G (sym is) (Closes.selects l rest w top.top found.each h (omega (arith, length_queued s.ring s.head s.waiting, waits.few)))
+      let G : Bool → Words → Type 0 = λ c m. Closes rule (words s) (Ok c) m in
+      let to : Merges w l.below t s' = subst (λ (u : Levels). Merges w l.below u s') same merges in
+      let stack : stacked s'.open s'.depth ≡ above w l.below (stacked s.open (s.depth - 1)) = to.stack ∙ ap (merged w l.below) (waits.stack ∙ top.top) in
+      let is : words s' ≡ after (above w l.below (stacked s.open (s.depth - 1))) s.opened (queued s.ring s.head s.waiting ++ l.number ∷ []) =
+      λ i. after (stack i) ((to.opened ∙ waits.opened) i) ((to.waiting ∙ waits.waiting) i) in
+      subst (λ c. G c (words s')) (sym it) (subst (G true) (sym is)
+      (Closes.selects l rest w top.top found.each h (omega (arith, length_queued s.ring s.head s.waiting, waits.few))))
 
-  pub closes_passes : (s' : Levels) → (Has w 0 → ⊥) → Merges w l.below s s' → Closes rule (words s) (Ok false) (words s')
-  closes_passes s' h merges =
+  pub closes_passes : (t s' : Levels) (b : Bool) → (Has w 0 → ⊥) → b ≡ false → t ≡ s → Merges w l.below t s' → Closes rule (words s) (Ok b) (words s')
+  closes_passes t s' b h it same merges =
       let after : List Level → ℕ → List ℕ → Words = λ st o q. record { stack = st; opened = o; waiting = q } in
-      let G : Words → Type 0 = λ m. Closes rule (words s) (Ok false) m in
-      let stack : stacked s'.open s'.depth ≡ above w l.below (stacked s.open (s.depth - 1)) = merges.stack ∙ ap (merged w l.below) top.top in
-      let is : words s' ≡ record { stack = above w l.below (stacked s.open (s.depth - 1)); opened = s.opened; waiting = queued s.ring s.head s.waiting } =
-      λ i. after (stack i) (merges.opened i) (merges.waiting i) in
-      subst G (sym is) (Closes.passes l rest w top.top found.each h)
+      let G : Bool → Words → Type 0 = λ c m. Closes rule (words s) (Ok c) m in
+      let to : Merges w l.below s s' = subst (λ (u : Levels). Merges w l.below u s') same merges in
+      let stack : stacked s'.open s'.depth ≡ above w l.below (stacked s.open (s.depth - 1)) = to.stack ∙ ap (merged w l.below) top.top in
+      let is : words s' ≡ after (above w l.below (stacked s.open (s.depth - 1))) s.opened (queued s.ring s.head s.waiting) =
+      λ i. after (stack i) (to.opened i) (to.waiting i) in
+      subst (λ c. G c (words s')) (sym it) (subst (G false) (sym is) (Closes.passes l rest w top.top found.each h))
 
 -- a taking: one number more of those that wait, where ys is the front of the caller's list xs, as far as k numbers go
 pub taken_more : (r xs ys : List ℕ) (h n k i j p v d : ℕ) → ys ≡ take i (queued r h n) ++ drop i (take k xs) → k ≡ min n (length xs) → i < length (take k xs)

@@ -90,13 +90,12 @@ impl Levels {
         }
         let level = self.innermost();
         let found = level.found(rule);
-        if !found.contains(0) {
-            self.merge(found, level.below);
-            return Ok(false);
+        let selected = found.contains(0);
+        if selected {
+            self.wait(level.number)?;
         }
-        self.wait(level.number)?;
         self.merge(found, level.below);
-        Ok(true)
+        Ok(selected)
     }
 
     // The innermost open node.
