@@ -139,16 +139,19 @@ drops_none n o ls q e = Drops.none (ap (λ (k : ℕ). stacked ls k) e)
 pub drops_top : (n o k : ℕ) (ls : List Level) (q : List ℕ) → 0 < n → k ≡ n - 1
     → Drops (record { stack = stacked ls n; opened = o; waiting = q }) (Ok tt) (record { stack = stacked ls k; opened = o; waiting = q })
 drops_top n o k ls q h e =
-    Drops.drops (get_or ls (n - 1) no_level) (stacked ls k) (stacked_top ls n h ∙ ap (λ (j : ℕ). get_or ls (n - 1) no_level ∷ stacked ls j) (sym e))
+    Drops.drops (get_or ls (n - 1) no_level) (stacked ls k)
+    (stacked_top ls n h ∙ ap (λ (j : ℕ). get_or ls (n - 1) no_level ∷ stacked ls j) (sym e))
 
-pub innermost_top : (ls : List Level) (l d : Level) (n k : ℕ) → 0 < n → k ≡ n - 1 → n ≤ length ls → l ≡ get_or ls k d → stacked ls n ≡ l ∷ stacked ls k
+pub innermost_top : (ls : List Level) (l d : Level) (n k : ℕ) → 0 < n → k ≡ n - 1 → n ≤ length ls → l ≡ get_or ls k d
+    → stacked ls n ≡ l ∷ stacked ls k
 innermost_top ls l d n k h e len g =
     let lt : n - 1 < length ls = omega arith in
-    let same : get_or ls k d ≡ get_or ls (n - 1) no_level = ap (λ (j : ℕ). get_or ls j d) e ∙ get_or_default ls (n - 1) d no_level lt in
+    let same : get_or ls k d ≡ get_or ls (n - 1) no_level =
+    ap (λ (j : ℕ). get_or ls j d) e ∙ get_or_default ls (n - 1) d no_level lt in
     stacked_top ls n h ∙ ap₂ (λ (x : Level) (j : ℕ). x ∷ stacked ls j) (sym (g ∙ same)) (sym e)
 
-pub found_both : (rule : List RuleNode) (l : Level) (w e x : ℕ) → (Has w x ↔ (Has l.met x × Has e x)) → (Has e x ↔ EdgesMet rule l.child l.below x)
-    → Has w x ↔ (Has l.met x × EdgesMet rule l.child l.below x)
+pub found_both : (rule : List RuleNode) (l : Level) (w e x : ℕ) → (Has w x ↔ (Has l.met x × Has e x))
+    → (Has e x ↔ EdgesMet rule l.child l.below x) → Has w x ↔ (Has l.met x × EdgesMet rule l.child l.below x)
 found_both rule l w e x both met = (
   λ h. let k = both.0 h in (k.0, met.0 k.1),
   λ h. both.1 (h.0, met.1 h.1),
@@ -162,7 +165,8 @@ module _ (rule : List RuleNode) (s : Levels) (l : Level) (w : ℕ) (top : Innerm
   abbrev rest : List Level
   rest = stacked s.open (s.depth - 1)
 
-  pub closes_full : (s' : Levels) (f : Refusal) (r : Result Bool Refusal) → Has w 0 → WaitFails s f s' → r ≡ Err f → Closes rule (words s) r (words s')
+  pub closes_full : (s' : Levels) (f : Refusal) (r : Result Bool Refusal) → Has w 0 → WaitFails s f s' → r ≡ Err f
+      → Closes rule (words s) r (words s')
   closes_full s' f r h full e =
       let G : Levels → Result Bool Refusal → Type 0 = λ t a. Closes rule (words s) a (words t) in
       let same : r ≡ Err WaitingFull = e ∙ ap Err full.refused in
@@ -175,25 +179,29 @@ module _ (rule : List RuleNode) (s : Levels) (l : Level) (w : ℕ) (top : Innerm
       let after : List Level → ℕ → List ℕ → Words = λ st o q. record { stack = st; opened = o; waiting = q } in
       let G : Bool → Words → Type 0 = λ c m. Closes rule (words s) (Ok c) m in
       let to : Merges w l.below t s' = subst (λ (u : Levels). Merges w l.below u s') same merges in
-      let stack : stacked s'.open s'.depth ≡ above w l.below (stacked s.open (s.depth - 1)) = to.stack ∙ ap (merged w l.below) (waits.stack ∙ top.top) in
+      let stack : stacked s'.open s'.depth ≡ above w l.below (stacked s.open (s.depth - 1)) =
+      to.stack ∙ ap (merged w l.below) (waits.stack ∙ top.top) in
       let is : words s' ≡ after (above w l.below (stacked s.open (s.depth - 1))) s.opened (queued s.ring s.head s.waiting ++ l.number ∷ []) =
       λ i. after (stack i) ((to.opened ∙ waits.opened) i) ((to.waiting ∙ waits.waiting) i) in
       subst (λ c. G c (words s')) (sym it) (subst (G true) (sym is)
       (Closes.selects l rest w top.top found.each h (omega (arith, length_queued s.ring s.head s.waiting, waits.few))))
 
-  pub closes_passes : (t s' : Levels) (b : Bool) → (Has w 0 → ⊥) → b ≡ false → t ≡ s → Merges w l.below t s' → Closes rule (words s) (Ok b) (words s')
+  pub closes_passes : (t s' : Levels) (b : Bool) → (Has w 0 → ⊥) → b ≡ false → t ≡ s → Merges w l.below t s'
+      → Closes rule (words s) (Ok b) (words s')
   closes_passes t s' b h it same merges =
       let after : List Level → ℕ → List ℕ → Words = λ st o q. record { stack = st; opened = o; waiting = q } in
       let G : Bool → Words → Type 0 = λ c m. Closes rule (words s) (Ok c) m in
       let to : Merges w l.below s s' = subst (λ (u : Levels). Merges w l.below u s') same merges in
-      let stack : stacked s'.open s'.depth ≡ above w l.below (stacked s.open (s.depth - 1)) = to.stack ∙ ap (merged w l.below) top.top in
+      let stack : stacked s'.open s'.depth ≡ above w l.below (stacked s.open (s.depth - 1)) =
+      to.stack ∙ ap (merged w l.below) top.top in
       let is : words s' ≡ after (above w l.below (stacked s.open (s.depth - 1))) s.opened (queued s.ring s.head s.waiting) =
       λ i. after (stack i) (to.opened i) (to.waiting i) in
       subst (λ c. G c (words s')) (sym it) (subst (G false) (sym is) (Closes.passes l rest w top.top found.each h))
 
 -- a taking: one number more of those that wait, where ys is the front of the caller's list xs, as far as k numbers go
-pub taken_more : (r xs ys : List ℕ) (h n k i j p v d : ℕ) → ys ≡ take i (queued r h n) ++ drop i (take k xs) → k ≡ min n (length xs) → i < length (take k xs)
-    → p ≡ (h + i) % 64 → p < length r → v ≡ get_or r p d → j ≡ i + 1 → set ys i v ≡ take j (queued r h n) ++ drop j (take k xs)
+pub taken_more : (r xs ys : List ℕ) (h n k i j p v d : ℕ) → ys ≡ take i (queued r h n) ++ drop i (take k xs)
+    → k ≡ min n (length xs) → i < length (take k xs) → p ≡ (h + i) % 64 → p < length r → v ≡ get_or r p d → j ≡ i + 1
+    → set ys i v ≡ take j (queued r h n) ++ drop j (take k xs)
 taken_more r xs ys h n k i j p v d e m a f b g o =
     let q : List ℕ = queued r h n in
     let long : length (queued r h n) ≡ n = length_queued r h n in
@@ -201,19 +209,21 @@ taken_more r xs ys h n k i j p v d e m a f b g o =
     let l : i < n = omega arith in
     let same : v ≡ get_or (queued r h n) i 0 =
     g ∙ get_or_default r p d 0 b ∙ ap (λ (m : ℕ). get_or r m 0) f ∙ sym (get_or_queued r h n i l) in
-    ap₂ (λ (zs : List ℕ) (x : ℕ). set zs i x) e same ∙ front_more q (take k xs) i (omega arith) a ∙ ap (λ (m : ℕ). take m q ++ drop m (take k xs)) (sym o)
+    ap₂ (λ (zs : List ℕ) (x : ℕ). set zs i x) e same ∙ front_more q (take k xs) i (omega arith) a
+    ∙ ap (λ (m : ℕ). take m q ++ drop m (take k xs)) (sym o)
 
 pub taken_count : (r xs : List ℕ) (h n k : ℕ) → k ≡ min n (length xs) → k ≡ min (length (queued r h n)) (length xs)
 taken_count r xs h n k e = omega (arith, length_queued r h n)
 
-pub taken_list : (r xs ys : List ℕ) (h n k i : ℕ) → ys ≡ take i (queued r h n) ++ drop i (take k xs) → k ≡ min n (length xs) → length (take k xs) ≤ i → i ≤ length (take k xs)
-    → ys ++ drop k xs ≡ take k (queued r h n) ++ drop k xs
+pub taken_list : (r xs ys : List ℕ) (h n k i : ℕ) → ys ≡ take i (queued r h n) ++ drop i (take k xs)
+    → k ≡ min n (length xs) → length (take k xs) ≤ i → i ≤ length (take k xs) → ys ++ drop k xs ≡ take k (queued r h n) ++ drop k xs
 taken_list r xs ys h n k i e m l g =
     let q : List ℕ = queued r h n in
     let cut : length (take k xs) ≡ k = length-take-le k xs (omega arith) in
     let all : i ≡ k = omega arith in
     ap (λ (zs : List ℕ). zs ++ drop k xs)
-    (e ∙ ap (λ (p : ℕ). take p q ++ drop p (take k xs)) all ∙ ap (λ (zs : List ℕ). take k q ++ zs) (drop_all k (take k xs) (omega arith)) ∙ append-nil (take k q))
+    (e ∙ ap (λ (p : ℕ). take p q ++ drop p (take k xs)) all
+    ∙ ap (λ (zs : List ℕ). take k q ++ zs) (drop_all k (take k xs) (omega arith)) ∙ append-nil (take k q))
 
 pub taken_rest : (r : List ℕ) (h n k h' n' : ℕ) → h' ≡ (h + k) % 64 → n' ≡ n - k → k ≤ n → queued r h' n' ≡ drop k (queued r h n)
 taken_rest r h n k h' n' e f l =

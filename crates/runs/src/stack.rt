@@ -1,7 +1,8 @@
 //! The calls, on the levels and the ring.
 ghost use Rattle.std.specs.Prelude.{◌≡◌, ◌<◌, MatchResult};
 ghost use Rattle.rules.specs.RuleNodes.{rule_nodes};
-ghost use Rattle.runs.specs.Words.{new_level, joined, words, no_words, Opens, Closes, Drops, Takes, FoundAt, Innermost, Waits, WaitFails, Merges, Kept};
+ghost use Rattle.runs.specs.Words.{new_level, joined, words, no_words, Opens, Closes, Drops, Takes, Kept};
+ghost use Rattle.runs.specs.Words.{FoundAt, Innermost, Waits, WaitFails, Merges};
 
 use crate::edges::edges_met;
 use crate::levels::{DEPTH, Level, Levels, OPENINGS, WAITING};
