@@ -44,11 +44,14 @@ module _ (ns : List RuleNode) (ch be x : ℕ) where
   pub lacks_met : (n u : ℕ) → (Has u x ↔ Lacks ns ch be n x) → Has (asked (edge_of ns n) ch be) n → Has u x ↔ Lacks ns ch be (n + 1) x
   lacks_met n u seen h = (
     λ k. more n (n + 1) (omega arith) (seen.0 k),
-    λ k. seen.1 (fewer n (n + 1) (omega arith) k (λ same. let P : ℕ → Type 0 = λ y. Has (asked (edge_of ns y) ch be) y in k.lacks (subst P (sym same) h))),
+    λ k. seen.1 (fewer n (n + 1) (omega arith) k (λ same.
+        let P : ℕ → Type 0 = λ y. Has (asked (edge_of ns y) ch be) y in
+        k.lacks (subst P (sym same) h))),
   )
 
-  pub lacks_more : (n u v p : ℕ) → (Has u x ↔ Lacks ns ch be n x) → (Has v x ↔ (Has u x ⊎ ((x ≡ p) × (p < 64)))) → p ≡ parent_of ns n
-      → parent_of ns n < n → n < length ns → length ns ≤ 64 → 0 < n → (Has (asked (edge_of ns n) ch be) n → ⊥) → Has v x ↔ Lacks ns ch be (n + 1) x
+  pub lacks_more : (n u v p : ℕ) → (Has u x ↔ Lacks ns ch be n x) → (Has v x ↔ (Has u x ⊎ ((x ≡ p) × (p < 64))))
+      → p ≡ parent_of ns n → parent_of ns n < n → n < length ns → length ns ≤ 64 → 0 < n → (Has (asked (edge_of ns n) ch be) n → ⊥)
+      → Has v x ↔ Lacks ns ch be (n + 1) x
   lacks_more n u v p seen w is low within few pos lacks = (
     λ h. ⊎_elim
         (λ g. more n (n + 1) (omega arith) (seen.0 g))
@@ -61,8 +64,8 @@ module _ (ns : List RuleNode) (ch be x : ℕ) where
   )
 
 -- once all rule nodes are seen
-pub edges_all : (ns : List RuleNode) (ch be n u r x : ℕ) → (Has r x ↔ ((x < length ns) × (x < 64) × (Has u x → ⊥))) → (Has u x ↔ Lacks ns ch be n x)
-    → length ns ≤ n → n ≤ length ns → length ns ≤ 64 → Has r x ↔ EdgesMet ns ch be x
+pub edges_all : (ns : List RuleNode) (ch be n u r x : ℕ) → (Has r x ↔ ((x < length ns) × (x < 64) × (Has u x → ⊥)))
+    → (Has u x ↔ Lacks ns ch be n x) → length ns ≤ n → n ≤ length ns → length ns ≤ 64 → Has r x ↔ EdgesMet ns ch be x
 edges_all ns ch be n u r x rest inv a b few = (
   λ h. let k = rest.0 h in (
     k.0,

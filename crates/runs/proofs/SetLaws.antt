@@ -51,7 +51,8 @@ module _ {T : Type 0} (same : T → T → Bool) (ns : List RuleNode) (ls : List 
   )
 
   -- if n is not named, nothing is new
-  still : (n u : ℕ) → (Has u x ↔ Named same ns ls t n x) → (n < length ns → same t (get_or ls n t) ≡ true → ⊥) → Has u x ↔ Named same ns ls t (n + 1) x
+  still : (n u : ℕ) → (Has u x ↔ Named same ns ls t n x) → (n < length ns → same t (get_or ls n t) ≡ true → ⊥)
+      → Has u x ↔ Named same ns ls t (n + 1) x
   unfolding Named
   still n u seen other = (
     λ h. let k = seen.0 h in (k.0, ⊎_elim (λ a. inl a) (λ b. let l : x < n = b.0 in inr (omega arith, b.1)) k.1),
@@ -80,7 +81,8 @@ module _ {T : Type 0} (same : T → T → Bool) (ns : List RuleNode) (ls : List 
     pub named_no : b ≡ false → Has u x ↔ Named same ns ls t (n + 1) x
     named_no it = still n u seen (λ _ k. both_ways _ (found ∙ it) k)
 
-    pub named_yes : (v : ℕ) → (Has v x ↔ (Has u x ⊎ ((x ≡ n) × (n < 64)))) → n < 64 → n < length ns → b ≡ true → Has v x ↔ Named same ns ls t (n + 1) x
+    pub named_yes : (v : ℕ) → (Has v x ↔ (Has u x ⊎ ((x ≡ n) × (n < 64)))) → n < 64 → n < length ns → b ≡ true
+        → Has v x ↔ Named same ns ls t (n + 1) x
     unfolding Named
     named_yes v more low few it = (
       λ h. ⊎_elim
@@ -96,7 +98,8 @@ module _ {T : Type 0} (same : T → T → Bool) (ns : List RuleNode) (ls : List 
     )
 
   -- once all labels are tried
-  pub named_all : (n u : ℕ) → (Has u x ↔ Named same ns ls t n x) → length ls ≤ n → n ≤ length ls → Has u x ↔ ((x < length ns) × Meets same ns ls t x)
+  pub named_all : (n u : ℕ) → (Has u x ↔ Named same ns ls t n x) → length ls ≤ n → n ≤ length ls
+      → Has u x ↔ ((x < length ns) × Meets same ns ls t x)
   unfolding Named
   named_all n u seen all within = (
     λ h. let k = seen.0 h in (
