@@ -1,5 +1,5 @@
 -- The state of a run as lists, and what each call does to it, for the contracts of the inner functions.
-use Rattle.std.specs.Prelude.{◌≡◌, ℕ, zero, suc, ◌+◌, ◌%◌, ◌<◌, min, Bool, true, false, ◌↔◌, List, [], ◌∷◌, ◌++◌, length, take, drop, Ok, Err, Result, bit_or, slice_index, slice_index_or}
+use Rattle.std.specs.Prelude.{◌≡◌, ℕ, zero, suc, ◌+◌, ◌-◌, ◌%◌, ◌<◌, min, Bool, true, false, ◌↔◌, List, [], ◌∷◌, ◌++◌, length, take, drop, Ok, Err, Result, bit_or, slice_index, slice_index_or}
 use Rattle.rules.specs.declared.node.RuleNode.{RuleNode}
 use Rattle.runs.specs.declared.levels.Level.{Level}
 use Rattle.runs.specs.declared.levels.Levels.{Levels}
@@ -82,16 +82,32 @@ abbrev pub Kept : {T : Type 0} → Levels → Result T Refusal → Levels → Ty
 Kept s (Ok x) s' = Unit {0}
 Kept s (Err k) s' = s' ≡ s
 
--- the two parts of a closing
-abbrev pub Waits : ℕ → Levels → Result (Unit {0}) Refusal → Levels → Type 0
-Waits n s (Ok _) s' =
-    (s.waiting < 64) × (words s' ≡ record { stack = (words s).stack; opened = s.opened; waiting = (words s).waiting ++ n ∷ [] }) × (s'.depth ≡ s.depth)
-Waits n s (Err f) s' = (f ≡ WaitingFull) × (s.waiting ≡ 64) × (s' ≡ s)
+-- the parts of a closing: what is found at the node l, and that l is the innermost one
+pub record FoundAt (rule : List RuleNode) (l : Level) (w : ℕ) : Type 0 where
+  pub each : Found rule l w
+
+pub record Innermost (s : Levels) (l : Level) : Type 0 where
+  pub top : stacked s.open s.depth ≡ l ∷ stacked s.open (s.depth - 1)
+
+-- one waiting number more, unless as many wait as can
+pub record Waits (n : ℕ) (s s' : Levels) : Type 0 where
+  pub few : s.waiting < 64
+  pub stack : stacked s'.open s'.depth ≡ stacked s.open s.depth
+  pub opened : s'.opened ≡ s.opened
+  pub waiting : queued s'.ring s'.head s'.waiting ≡ queued s.ring s.head s.waiting ++ n ∷ []
+  pub depth : s'.depth ≡ s.depth
+
+pub record WaitFails (s : Levels) (f : Refusal) (s' : Levels) : Type 0 where
+  pub refused : f ≡ WaitingFull
+  pub full : s.waiting ≡ 64
+  pub kept : s' ≡ s
 
 -- the stack with its innermost node closed
 abbrev pub merged : ℕ → ℕ → List Level → List Level
 merged w b [] = []
 merged w b (l ∷ ps) = above w b ps
 
-abbrev pub Merges : ℕ → ℕ → Levels → Levels → Type 0
-Merges w b s s' = words s' ≡ record { stack = merged w b (words s).stack; opened = s.opened; waiting = (words s).waiting }
+pub record Merges (w b : ℕ) (s s' : Levels) : Type 0 where
+  pub stack : stacked s'.open s'.depth ≡ merged w b (stacked s.open s.depth)
+  pub opened : s'.opened ≡ s.opened
+  pub waiting : queued s'.ring s'.head s'.waiting ≡ queued s.ring s.head s.waiting

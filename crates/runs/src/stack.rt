@@ -1,7 +1,8 @@
 //! The calls, on the levels and the ring.
-ghost use Rattle.std.specs.Prelude.{◌≡◌, ◌<◌};
+ghost use Rattle.std.specs.Prelude.{◌≡◌, ◌<◌, MatchResult};
 ghost use Rattle.rules.specs.RuleNodes.{rule_nodes};
-ghost use Rattle.runs.specs.Words.{new_level, words, no_words, Opens, Closes, Drops, Takes, Waits, Merges, Kept};
+ghost use Rattle.runs.specs.Words.{new_level, joined, words, no_words, Opens, Closes, Drops, Takes, Kept};
+ghost use Rattle.runs.specs.Words.{FoundAt, Innermost, Waits, WaitFails, Merges};
 
 use crate::edges::edges_met;
 use crate::levels::{DEPTH, Level, Levels, OPENINGS, WAITING};
@@ -21,6 +22,27 @@ impl Level {
             number,
         }
     }
+
+    // The same node once a child of it is closed, at which `found` were found, and `below` at the nodes below it.
+    fn join(self, found: NodeSet, below: NodeSet) -> Level
+        ensures { result ≡ joined found below self }
+    {
+        Level {
+            met: self.met,
+            child: self.child.union(found),
+            below: self.below.union(found.union(below)),
+            number: self.number,
+        }
+    }
+
+    // The rule nodes that are found at the node when it is closed: it meets their tests, and their edges are met.
+    #[tactic(auto, using(crate::proofs::WordLaws::found_both))]
+    fn found(&self, rule: &Rule) -> NodeSet
+        ensures { FoundAt (rule_nodes rule.now) self.now result }
+    {
+        self.met
+            .intersection(edges_met(rule, self.child, self.below))
+    }
 }
 
 impl Levels {
@@ -39,6 +61,7 @@ impl Levels {
     }
 
     /// A new innermost open node that meets the tests `met`.
+    #[tactic(auto, using(crate::proofs::WordLaws::opening))]
     pub fn open(&mut self, met: NodeSet) -> Result<u32, Refusal>
         ensures opens { Opens met (words self.old) result (words self.new) }
         ensures kept { Kept self.old result self.new }
@@ -58,6 +81,7 @@ impl Levels {
     }
 
     /// Ends the innermost open node, and says whether it is selected.
+    #[tactic(auto, using(crate::proofs::WordLaws::closing))]
     pub fn close(&mut self, rule: &Rule) -> Result<bool, Refusal>
         ensures closes { Closes (rule_nodes rule.now) (words self.old) result (words self.new) }
         ensures kept { Kept self.old result self.new }
@@ -65,10 +89,8 @@ impl Levels {
         if self.depth == 0 {
             return Err(Refusal::NothingOpen);
         }
-        let level = self.open[self.depth - 1];
-        let found = level
-            .met
-            .intersection(edges_met(rule, level.child, level.below));
+        let level = self.innermost();
+        let found = level.found(rule);
         let selected = found.contains(0);
         if selected {
             self.wait(level.number)?;
@@ -77,36 +99,17 @@ impl Levels {
         Ok(selected)
     }
 
-    // One waiting number more, unless as many wait as can.
-    fn wait(&mut self, number: u32) -> Result<(), Refusal>
-        ensures { Waits number self.old result self.new }
+    // The innermost open node.
+    #[tactic(auto, using(crate::proofs::WordLaws::innermost_top))]
+    fn innermost(&self) -> Level
+        requires { 0 < self.now.depth }
+        ensures { Innermost self.now result }
     {
-        let count = self.waiting;
-        if count >= WAITING {
-            return Err(Refusal::WaitingFull);
-        }
-        self.ring[(self.head + count) % WAITING] = number;
-        self.waiting = count + 1;
-        Ok(())
+        self.open[self.depth - 1]
     }
 
-    // Ends the innermost open node, at which `found` were found, and `below` at the nodes below it.
-    fn merge(&mut self, found: NodeSet, below: NodeSet)
-        requires { 0 < self.old.depth }
-        ensures { Merges found below self.old self.new }
-    {
-        let at = self.depth - 1;
-        if at == 0 {
-            self.depth = at;
-            return;
-        }
-        let parent = &mut self.open[at - 1];
-        parent.child = parent.child.union(found);
-        parent.below = parent.below.union(found.union(below));
-        self.depth = at;
-    }
-
-    /// Gives up the innermost open node.
+    /// Gives the innermost open node up.
+    #[tactic(auto, using(crate::proofs::WordLaws::dropping))]
     pub fn drop_open(&mut self) -> Result<(), Refusal>
         ensures drops { Drops (words self.old) result (words self.new) }
         ensures kept { Kept self.old result self.new }
@@ -118,7 +121,37 @@ impl Levels {
         Ok(())
     }
 
+    // One waiting number more, unless as many wait as can.
+    #[tactic(auto, using(crate::proofs::WordLaws::queued_wait))]
+    fn wait(&mut self, number: u32) -> Result<(), Refusal>
+        ensures { MatchResult result (λ _. Waits number self.old self.new) (λ f. WaitFails self.old f self.new) }
+    {
+        let count = self.waiting;
+        if count >= WAITING {
+            return Err(Refusal::WaitingFull);
+        }
+        self.ring[(self.head + count) % WAITING] = number;
+        self.waiting = count + 1;
+        Ok(())
+    }
+
+    // Ends the innermost open node, at which `found` were found, and `below` at the nodes below it.
+    #[tactic(auto, using(crate::proofs::WordLaws::merged_below, crate::proofs::WordLaws::merged_root))]
+    fn merge(&mut self, found: NodeSet, below: NodeSet)
+        requires { 0 < self.old.depth }
+        ensures { Merges found below self.old self.new }
+    {
+        let at = self.depth - 1;
+        if at == 0 {
+            self.depth = at;
+            return;
+        }
+        self.open[at - 1] = self.open[at - 1].join(found, below);
+        self.depth = at;
+    }
+
     /// Moves the oldest waiting numbers to the front of `out`, as many as wait and fit, and says how many.
+    #[tactic(auto, using(crate::proofs::WordLaws::taking))]
     pub fn take(&mut self, out: &mut [u32]) -> usize
         ensures { Takes (words self.old) out.old result out.new (words self.new) }
     {

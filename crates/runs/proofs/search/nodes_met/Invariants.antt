@@ -1,6 +1,8 @@
-use Rattle.std.proofs.Common.{◌≡◌, ℕ, ◌<◌, true, get_or}
-use Rattle.runs.proofs.SetLaws.{Grown}
+use Rattle.std.proofs.Common.{ℕ, ◌↔◌}
+use Rattle.rules.specs.RuleNodes.{rule_nodes}
+use Rattle.runs.specs.Bits.{Has}
+use Rattle.runs.proofs.SetLaws.{Named}
 use Rattle.runs.proofs.search.nodes_met.Given as goal
 
 abbrev pub invariant-loop-x : goal.invariant-loop-x
-invariant-loop-x g l = Grown (λ (x : ℕ). (x < l.count) × (g.L.PartialEq.eq l.label (get_or l.labels x l.label) ≡ true)) l.initial.met l.x l.met
+invariant-loop-x g l = (x : ℕ) → Has l.met x ↔ Named g.L.PartialEq.eq (rule_nodes l.rule) l.labels l.label l.x x
