@@ -8,6 +8,7 @@ use Rattle.runs.specs.Bits.{Has}
 use Rattle.runs.specs.Edges.{EdgesMet}
 use Rattle.runs.specs.declared.refusal.Refusal.{Refusal}
 use Rattle.runs.specs.declared.refusal.Refusal.TheVariants.{NothingOpen, WaitingFull, TooDeep, TooMany}
+use Rattle.runs.specs.Limits.{depth_limit, waiting_limit, openings_limit}
 use Rattle.runs.specs.Words.{Words, new_level, stacked, queued, no_level, merged, joined, Opens, Closes, Drops, FoundAt, Innermost, Waits, WaitFails, Merges, words, above}
 
 pub length_stacked : (ls : List Level) (n : ℕ) → length (stacked ls n) ≡ n
@@ -33,32 +34,32 @@ pub length_queued : (r : List ℕ) (h n : ℕ) → length (queued r h n) ≡ n
 length_queued r h zero = refl
 length_queued r h (suc n) = ap suc (length_queued r (suc h) n)
 
-pub get_or_queued : (r : List ℕ) (h n j : ℕ) → j < n → get_or (queued r h n) j 0 ≡ get_or r ((h + j) % 64) 0
+pub get_or_queued : (r : List ℕ) (h n j : ℕ) → j < n → get_or (queued r h n) j 0 ≡ get_or r ((h + j) % waiting_limit) 0
 get_or_queued r h zero j l = let z : ⊥ = omega arith in absurd z
-get_or_queued r h (suc n) zero l = let e : h ≡ h + 0 = omega arith in ap (λ (k : ℕ). get_or r (k % 64) 0) e
+get_or_queued r h (suc n) zero l = let e : h ≡ h + 0 = omega arith in ap (λ (k : ℕ). get_or r (k % waiting_limit) 0) e
 get_or_queued r h (suc n) (suc j) l =
     let e : suc h + j ≡ h + suc j = omega arith in
-    get_or_queued r (suc h) n j (omega arith) ∙ ap (λ (k : ℕ). get_or r (k % 64) 0) e
+    get_or_queued r (suc h) n j (omega arith) ∙ ap (λ (k : ℕ). get_or r (k % waiting_limit) 0) e
 
-pub queued_more : (r : List ℕ) (h n : ℕ) → queued r h (n + 1) ≡ queued r h n ++ get_or r ((h + n) % 64) 0 ∷ []
-queued_more r h zero = let e : h ≡ h + 0 = omega arith in ap (λ (k : ℕ). get_or r (k % 64) 0 ∷ []) e
+pub queued_more : (r : List ℕ) (h n : ℕ) → queued r h (n + 1) ≡ queued r h n ++ get_or r ((h + n) % waiting_limit) 0 ∷ []
+queued_more r h zero = let e : h ≡ h + 0 = omega arith in ap (λ (k : ℕ). get_or r (k % waiting_limit) 0 ∷ []) e
 queued_more r h (suc n) =
     let e : suc n + 1 ≡ suc (n + 1) = omega arith in
     let f : suc h + n ≡ h + suc n = omega arith in
     ap (λ (k : ℕ). queued r h k) e
-    ∙ ap (λ (ys : List ℕ). get_or r (h % 64) 0 ∷ ys) (queued_more r (suc h) n ∙ ap (λ (k : ℕ). queued r (suc h) n ++ get_or r (k % 64) 0 ∷ []) f)
+    ∙ ap (λ (ys : List ℕ). get_or r (h % waiting_limit) 0 ∷ ys) (queued_more r (suc h) n ∙ ap (λ (k : ℕ). queued r (suc h) n ++ get_or r (k % waiting_limit) 0 ∷ []) f)
 
-pub queued_set : (r : List ℕ) (i x h n : ℕ) → ((j : ℕ) → j < n → (h + j) % 64 ≢ i) → queued (set r i x) h n ≡ queued r h n
+pub queued_set : (r : List ℕ) (i x h n : ℕ) → ((j : ℕ) → j < n → (h + j) % waiting_limit ≢ i) → queued (set r i x) h n ≡ queued r h n
 queued_set r i x h zero apart = refl
 queued_set r i x h (suc n) apart =
     let e : h + 0 ≡ h = omega arith in
-    let P : ℕ → Type 0 = λ k. k % 64 ≢ i in
+    let P : ℕ → Type 0 = λ k. k % waiting_limit ≢ i in
     ap₂ (λ (a : ℕ) (ys : List ℕ). a ∷ ys)
-    (get_or-set_other r i (h % 64) x 0 (subst P e (apart 0 (omega arith))))
+    (get_or-set_other r i (h % waiting_limit) x 0 (subst P e (apart 0 (omega arith))))
     (queued_set r i x (suc h) n (λ j l. let f : h + suc j ≡ suc h + j = omega arith in subst P f (apart (suc j) (omega arith))))
 
 -- the number x is written behind the n that wait, at place i
-pub queued_wait : (r : List ℕ) (x h n i m : ℕ) → length r ≡ 64 → n < 64 → i ≡ (h + n) % 64 → m ≡ n + 1
+pub queued_wait : (r : List ℕ) (x h n i m : ℕ) → length r ≡ waiting_limit → n < waiting_limit → i ≡ (h + n) % waiting_limit → m ≡ n + 1
     → queued (set r i x) h m ≡ queued r h n ++ x ∷ []
 queued_wait r x h n i m len l e f =
     let b : i < length r = omega arith in
@@ -67,7 +68,7 @@ queued_wait r x h n i m len l e f =
     ∙ ap₂ (λ (ys : List ℕ) (a : ℕ). ys ++ a ∷ []) (queued_set r i x h n (λ j k g. omega arith))
     (ap (λ (k : ℕ). get_or (set r i x) k 0) (sym e) ∙ get_or-set_same r i x 0 b)
 
-pub queued_mod : (r : List ℕ) (h h' n : ℕ) → h % 64 ≡ h' % 64 → queued r h n ≡ queued r h' n
+pub queued_mod : (r : List ℕ) (h h' n : ℕ) → h % waiting_limit ≡ h' % waiting_limit → queued r h n ≡ queued r h' n
 queued_mod r h h' zero e = refl
 queued_mod r h h' (suc n) e =
     ap₂ (λ (k : ℕ) (ys : List ℕ). get_or r k 0 ∷ ys) e (queued_mod r (suc h) (suc h') n (omega arith))
@@ -114,15 +115,15 @@ front_more q xs i hq hx =
 ------------------------------------------------------------------------
 -- what the calls do to the lists
 
-pub opens_deep : (w n o : ℕ) (ls : List Level) (q : List ℕ) → 128 ≤ n → n ≤ 128
+pub opens_deep : (w n o : ℕ) (ls : List Level) (q : List ℕ) → depth_limit ≤ n → n ≤ depth_limit
     → Opens w (record { stack = stacked ls n; opened = o; waiting = q }) (Err TooDeep) (record { stack = stacked ls n; opened = o; waiting = q })
 opens_deep w n o ls q g h = Opens.deep (omega (arith, length_stacked ls n))
 
-pub opens_many : (w n o : ℕ) (ls : List Level) (q : List ℕ) → n < 128 → 1000000 ≤ o → o ≤ 1000000
+pub opens_many : (w n o : ℕ) (ls : List Level) (q : List ℕ) → n < depth_limit → openings_limit ≤ o → o ≤ openings_limit
     → Opens w (record { stack = stacked ls n; opened = o; waiting = q }) (Err TooMany) (record { stack = stacked ls n; opened = o; waiting = q })
 opens_many w n o ls q l g h = Opens.many (omega (arith, length_stacked ls n)) (omega arith)
 
-pub opens_fine : (w n o k m : ℕ) (ls : List Level) (l : Level) (q : List ℕ) → n < 128 → o < 1000000 → length ls ≡ 128 → l ≡ new_level w o
+pub opens_fine : (w n o k m : ℕ) (ls : List Level) (l : Level) (q : List ℕ) → n < depth_limit → o < openings_limit → length ls ≡ depth_limit → l ≡ new_level w o
     → k ≡ n + 1 → m ≡ o + 1
     → Opens w (record { stack = stacked ls n; opened = o; waiting = q }) (Ok o) (record { stack = stacked (set ls n l) k; opened = m; waiting = q })
 opens_fine w n o k m ls l q a b len e f g =
@@ -200,7 +201,7 @@ module _ (rule : List RuleNode) (s : Levels) (l : Level) (w : ℕ) (top : Innerm
 
 -- a taking: one number more of those that wait, where ys is the front of the caller's list xs, as far as k numbers go
 pub taken_more : (r xs ys : List ℕ) (h n k i j p v d : ℕ) → ys ≡ take i (queued r h n) ++ drop i (take k xs)
-    → k ≡ min n (length xs) → i < length (take k xs) → p ≡ (h + i) % 64 → p < length r → v ≡ get_or r p d → j ≡ i + 1
+    → k ≡ min n (length xs) → i < length (take k xs) → p ≡ (h + i) % waiting_limit → p < length r → v ≡ get_or r p d → j ≡ i + 1
     → set ys i v ≡ take j (queued r h n) ++ drop j (take k xs)
 taken_more r xs ys h n k i j p v d e m a f b g o =
     let q : List ℕ = queued r h n in
@@ -225,7 +226,7 @@ taken_list r xs ys h n k i e m l g =
     (e ∙ ap (λ (p : ℕ). take p q ++ drop p (take k xs)) all
     ∙ ap (λ (zs : List ℕ). take k q ++ zs) (drop_all k (take k xs) (omega arith)) ∙ append-nil (take k q))
 
-pub taken_rest : (r : List ℕ) (h n k h' n' : ℕ) → h' ≡ (h + k) % 64 → n' ≡ n - k → k ≤ n → queued r h' n' ≡ drop k (queued r h n)
+pub taken_rest : (r : List ℕ) (h n k h' n' : ℕ) → h' ≡ (h + k) % waiting_limit → n' ≡ n - k → k ≤ n → queued r h' n' ≡ drop k (queued r h n)
 taken_rest r h n k h' n' e f l =
     ap (λ (p : ℕ). queued r h' p) f ∙ queued_mod r h' (h + k) (n - k) (omega arith) ∙ sym (drop_queued r h n k l)
 

@@ -5,6 +5,7 @@ use Rattle.runs.specs.declared.levels.Level.{Level}
 use Rattle.runs.specs.declared.levels.Levels.{Levels}
 use Rattle.runs.specs.declared.refusal.Refusal.{Refusal}
 use Rattle.runs.specs.declared.refusal.Refusal.TheVariants.{NothingOpen, WaitingFull, TooDeep, TooMany}
+use Rattle.runs.specs.Limits.{depth_limit, waiting_limit, openings_limit}
 use Rattle.runs.specs.Bits.{Has}
 use Rattle.runs.specs.Edges.{EdgesMet}
 
@@ -29,7 +30,7 @@ stacked ls (suc n) = slice_index_or ls n no_level ∷ stacked ls n
 -- the n numbers in the ring from place h on
 abbrev pub queued : List ℕ → ℕ → ℕ → List ℕ
 queued ring h zero = []
-queued ring h (suc n) = slice_index ring (h % 64) ∷ queued ring (suc h) n
+queued ring h (suc n) = slice_index ring (h % waiting_limit) ∷ queued ring (suc h) n
 
 abbrev pub words : Levels → Words
 words s = record { stack = stacked s.open s.depth; opened = s.opened; waiting = queued s.ring s.head s.waiting }
@@ -51,17 +52,17 @@ above w b [] = []
 above w b (p ∷ ps) = joined w b p ∷ ps
 
 pub data Opens (w : ℕ) : Words → Result ℕ Refusal → Words → Type 0 where
-  deep : {m : Words} → length m.stack ≡ 128 → Opens w m (Err TooDeep) m
-  many : {m : Words} → length m.stack < 128 → m.opened ≡ 1000000 → Opens w m (Err TooMany) m
-  fine : {m : Words} → length m.stack < 128 → m.opened < 1000000
+  deep : {m : Words} → length m.stack ≡ depth_limit → Opens w m (Err TooDeep) m
+  many : {m : Words} → length m.stack < depth_limit → m.opened ≡ openings_limit → Opens w m (Err TooMany) m
+  fine : {m : Words} → length m.stack < depth_limit → m.opened < openings_limit
       → Opens w m (Ok m.opened) (record
       { stack = new_level w m.opened ∷ m.stack; opened = m.opened + 1; waiting = m.waiting })
 
 pub data Closes (rule : List RuleNode) : Words → Result Bool Refusal → Words → Type 0 where
   none : {m : Words} → m.stack ≡ [] → Closes rule m (Err NothingOpen) m
-  full : {m : Words} (l : Level) (ps : List Level) (w : ℕ) → m.stack ≡ l ∷ ps → Found rule l w → Has w 0 → length m.waiting ≡ 64
+  full : {m : Words} (l : Level) (ps : List Level) (w : ℕ) → m.stack ≡ l ∷ ps → Found rule l w → Has w 0 → length m.waiting ≡ waiting_limit
       → Closes rule m (Err WaitingFull) m
-  selects : {m : Words} (l : Level) (ps : List Level) (w : ℕ) → m.stack ≡ l ∷ ps → Found rule l w → Has w 0 → length m.waiting < 64
+  selects : {m : Words} (l : Level) (ps : List Level) (w : ℕ) → m.stack ≡ l ∷ ps → Found rule l w → Has w 0 → length m.waiting < waiting_limit
       → Closes rule m (Ok true) (record { stack = above w l.below ps; opened = m.opened; waiting = m.waiting ++ l.number ∷ [] })
   passes : {m : Words} (l : Level) (ps : List Level) (w : ℕ) → m.stack ≡ l ∷ ps → Found rule l w → (Has w 0 → ⊥)
       → Closes rule m (Ok false) (record { stack = above w l.below ps; opened = m.opened; waiting = m.waiting })
@@ -91,7 +92,7 @@ pub record Innermost (s : Levels) (l : Level) : Type 0 where
 
 -- one waiting number more, unless as many wait as can
 pub record Waits (n : ℕ) (s s' : Levels) : Type 0 where
-  pub few : s.waiting < 64
+  pub few : s.waiting < waiting_limit
   pub stack : stacked s'.open s'.depth ≡ stacked s.open s.depth
   pub opened : s'.opened ≡ s.opened
   pub waiting : queued s'.ring s'.head s'.waiting ≡ queued s.ring s.head s.waiting ++ n ∷ []
@@ -99,7 +100,7 @@ pub record Waits (n : ℕ) (s s' : Levels) : Type 0 where
 
 pub record WaitFails (s : Levels) (f : Refusal) (s' : Levels) : Type 0 where
   pub refused : f ≡ WaitingFull
-  pub full : s.waiting ≡ 64
+  pub full : s.waiting ≡ waiting_limit
   pub kept : s' ≡ s
 
 -- the stack with its innermost node closed

@@ -1,14 +1,9 @@
 //! The state of a run.
 ghost use Rattle.std.specs.Prelude.{◌<◌, ◌≤◌};
+ghost use Rattle.runs.specs.Limits.{depth_limit, waiting_limit, openings_limit};
 
 use crate::node_set::NodeSet;
-
-/// The open nodes, the waiting numbers and the accepted openings that a run has at most.
-pub const DEPTH: usize = 128;
-
-pub const WAITING: usize = 64;
-
-pub const OPENINGS: u32 = 1_000_000;
+use crate::run::{DEPTH_LIMIT, WAITING_LIMIT};
 
 /// An open node: the rule nodes whose test it meets, those found at a child of it so far and those found at a proper
 /// descendant of it so far, and its number.
@@ -24,14 +19,14 @@ pub struct Level {
 /// the state of a run has a fixed size, and what closes and waits in it is proved by places.
 #[derive(Clone, Copy)]
 pub struct Levels {
-    pub open: [Level; DEPTH],
+    pub open: [Level; DEPTH_LIMIT],
     pub depth: usize,
     pub opened: u32,
-    pub ring: [u32; WAITING],
+    pub ring: [u32; WAITING_LIMIT],
     pub head: usize,
     pub waiting: usize,
-    ghost deep: { depth ≤ 128 },
-    ghost within: { head < 64 },
-    ghost few: { waiting ≤ 64 },
-    ghost counted: { opened ≤ 1000000 },
+    ghost deep: { depth ≤ depth_limit },
+    ghost within: { head < waiting_limit },
+    ghost few: { waiting ≤ waiting_limit },
+    ghost counted: { opened ≤ openings_limit },
 }

@@ -5,9 +5,10 @@ ghost use Rattle.runs.specs.Words.{new_level, joined, words, no_words, Opens, Cl
 ghost use Rattle.runs.specs.Words.{FoundAt, Innermost, Waits, WaitFails, Merges};
 
 use crate::edges::edges_met;
-use crate::levels::{DEPTH, Level, Levels, OPENINGS, WAITING};
+use crate::levels::{Level, Levels};
 use crate::node_set::NodeSet;
 use crate::refusal::Refusal;
+use crate::run::{DEPTH_LIMIT, OPENINGS_LIMIT, WAITING_LIMIT};
 use rules::rule::Rule;
 
 impl Level {
@@ -51,10 +52,10 @@ impl Levels {
         ensures { words result ≡ no_words }
     {
         Levels {
-            open: [Level::new(NodeSet::empty(), 0); DEPTH],
+            open: [Level::new(NodeSet::empty(), 0); DEPTH_LIMIT],
             depth: 0,
             opened: 0,
-            ring: [0; WAITING],
+            ring: [0; WAITING_LIMIT],
             head: 0,
             waiting: 0,
         }
@@ -67,11 +68,11 @@ impl Levels {
         ensures kept { Kept self.old result self.new }
     {
         let at = self.depth;
-        if at >= DEPTH {
+        if at >= DEPTH_LIMIT {
             return Err(Refusal::TooDeep);
         }
         let number = self.opened;
-        if number >= OPENINGS {
+        if number >= OPENINGS_LIMIT {
             return Err(Refusal::TooMany);
         }
         self.open[at] = Level::new(met, number);
@@ -127,10 +128,10 @@ impl Levels {
         ensures { MatchResult result (λ _. Waits number self.old self.new) (λ f. WaitFails self.old f self.new) }
     {
         let count = self.waiting;
-        if count >= WAITING {
+        if count >= WAITING_LIMIT {
             return Err(Refusal::WaitingFull);
         }
-        self.ring[(self.head + count) % WAITING] = number;
+        self.ring[(self.head + count) % WAITING_LIMIT] = number;
         self.waiting = count + 1;
         Ok(())
     }
@@ -157,9 +158,9 @@ impl Levels {
     {
         let count = self.waiting.min(out.len());
         for (i, slot) in out[..count].iter_mut().enumerate() {
-            *slot = self.ring[(self.head + i) % WAITING];
+            *slot = self.ring[(self.head + i) % WAITING_LIMIT];
         }
-        self.head = (self.head + count) % WAITING;
+        self.head = (self.head + count) % WAITING_LIMIT;
         self.waiting -= count;
         count
     }
