@@ -12,7 +12,7 @@ use Rattle.runs.specs.Bits.{Has}
 use Rattle.runs.specs.Answers.{Told}
 use Rattle.runs.specs.Picks.{In}
 use Rattle.runs.specs.Model.{Model, empty, innermost, KeptChild, MeetsAt, OccursAt, opening, closing, dropping, taking, Does}
-use Rattle.runs.specs.Stands.{Tree}
+use Rattle.runs.specs.Stands.{SetModel}
 use Rattle.runs.specs.Journal.{SetsOf, Carried}
 
 -- the same mapping, where children stay children and tests stay met
@@ -78,7 +78,7 @@ module _ {L : Type 0} (rule : List RuleNode) (meets : L → ℕ → Type 0) wher
   pub empty_carried : Carried rule meets empty empty
   empty_carried = record { nodes = tt; path = refl; dropped = refl; closed = refl; waiting = refl; handed = refl }
 
-  module _ (m : Model L) (t : Tree) (c : Carried rule meets m t) where
+  module _ (m : Model L) (t : SetModel) (c : Carried rule meets m t) where
     kept_there : (u v : ℕ) → KeptChild t u v → KeptChild m u v
     kept_there u v k =
         let r = label_of m.nodes t.nodes c.nodes v (Some u) k.0.0 k.0.1 in
@@ -117,10 +117,10 @@ module _ {L : Type 0} (rule : List RuleNode) (meets : L → ℕ → Type 0) wher
     waits = ap length c.waiting
 
     -- what the model with labels does at a call
-    abbrev pub Lifts : Call L → Told → Tree → Type 0
+    abbrev pub Lifts : Call L → Told → SetModel → Type 0
     Lifts k r t' = (m' : Model L) × Does rule meets m k r m' × Carried rule meets m' t'
 
-    pub lift_open : (l : L) (s : ℕ) → Same l s → {r : Told} {t' : Tree} → Does rule Has t (Open s) r t' → Lifts (Open l) r t'
+    pub lift_open : (l : L) (s : ℕ) → Same l s → {r : Told} {t' : SetModel} → Does rule Has t (Open s) r t' → Lifts (Open l) r t'
     lift_open l s h (Does.too_deep w e) = (m, Does.too_deep l (sym depth ∙ e), c)
     lift_open l s h (Does.too_many w e f) = let d = depth in (m, Does.too_many l (omega arith) (sym count ∙ f), c)
     lift_open l s h (Does.opens w e f) =
@@ -150,7 +150,7 @@ module _ {L : Type 0} (rule : List RuleNode) (meets : L → ℕ → Type 0) wher
       handed = c.handed;
     }
 
-    pub lift_close : {r : Told} {t' : Tree} → Does rule Has t Close r t' → Lifts Close r t'
+    pub lift_close : {r : Told} {t' : SetModel} → Does rule Has t Close r t' → Lifts Close r t'
     lift_close (Does.none_to_close e) = (m, Does.none_to_close (sym c.path ∙ e), c)
     lift_close (Does.waiting_full v vs e o f) = (m, Does.waiting_full v vs (sym c.path ∙ e) ((occurs_same v).0 o) (sym waits ∙ f), c)
     lift_close (Does.selects v vs e o f) =
@@ -159,7 +159,7 @@ module _ {L : Type 0} (rule : List RuleNode) (meets : L → ℕ → Type 0) wher
     lift_close (Does.passes v vs e n) =
         (closing m v vs [], Does.passes v vs (sym c.path ∙ e) (λ o. n ((occurs_same v).1 o)), closed_carried v vs [])
 
-    pub lift_drop : {r : Told} {t' : Tree} → Does rule Has t Drop r t' → Lifts Drop r t'
+    pub lift_drop : {r : Told} {t' : SetModel} → Does rule Has t Drop r t' → Lifts Drop r t'
     lift_drop (Does.none_to_drop e) = (m, Does.none_to_drop (sym c.path ∙ e), c)
     lift_drop (Does.drops v vs e) = (
       dropping m v vs,

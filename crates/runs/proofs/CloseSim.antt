@@ -10,26 +10,27 @@ use Rattle.runs.specs.declared.levels.Level.{Level}
 use Rattle.runs.specs.declared.refusal.Refusal.{Refusal}
 use Rattle.runs.specs.declared.call.Call.TheVariants as call
 use Rattle.runs.specs.Bits.{Has}
-use Rattle.runs.specs.Words.{Words, Found, Closes, above, joined}
+use Rattle.runs.specs.Words.{Words}
+use Rattle.runs.specs.LevelCalls.{Found, Closes, above, joined}
 use Rattle.runs.specs.Picks.{In}
 use Rattle.runs.specs.Answers.{told_by, closed}
 use Rattle.runs.specs.Model.{innermost, KeptChild, MeetsAt, OccursAt, closing, Does}
-use Rattle.runs.specs.Stands.{Tree, FitsAt, ClosedChild, FitsWithin, LevelStands, LevelsStand, Chain, Shows}
+use Rattle.runs.specs.Stands.{SetModel, FitsAt, ClosedChild, FitsWithin, LevelStands, LevelsStand, Chain, Shows}
 use Rattle.runs.proofs.BitLaws.{has_or}
 use Rattle.runs.proofs.FitLaws.{found_fits, fits_found}
 use Rattle.runs.proofs.EmbedLaws.{fits_embeds, embeds_fits}
 use Rattle.runs.proofs.TreeLaws.{some_inj, one_parent, chain_less}
-use Rattle.runs.proofs.PathLaws.{level_keep, levels_keep}
+use Rattle.runs.proofs.LevelLaws.{level_keep, levels_keep}
 
 -- the tree with other open, closed and waiting nodes
-abbrev pub moved : Tree → List ℕ → List ℕ → List ℕ → Tree
+abbrev pub moved : SetModel → List ℕ → List ℕ → List ℕ → SetModel
 moved m vs cs ws = record { nodes = m.nodes; path = vs; dropped = m.dropped; closed = cs; waiting = ws; handed = m.handed }
 
-module _ (rule : List RuleNode) (m : Tree) (v : ℕ) (vs cs ws cs' ws' : List ℕ) (chain : Chain m (v ∷ vs)) (parents : ParentsFirst m.nodes) where
-  abbrev m₀ : Tree
+module _ (rule : List RuleNode) (m : SetModel) (v : ℕ) (vs cs ws cs' ws' : List ℕ) (chain : Chain m (v ∷ vs)) (parents : ParentsFirst m.nodes) where
+  abbrev m₀ : SetModel
   m₀ = moved m (v ∷ vs) cs ws
 
-  abbrev m₁ : Tree
+  abbrev m₁ : SetModel
   m₁ = moved m vs cs' ws'
 
   less : (d : ℕ) → In d vs → d < v
@@ -138,8 +139,8 @@ module _ (rule : List RuleNode) (m : Tree) (v : ℕ) (vs cs ws cs' ws' : List �
           levels_keep rule m₀ m₁ us ps (λ x q i k. outer_stands u us is x q (chain_less m parents u us (subst P is chain.2) x i) k) s.1,
         )
 
-module _ (rule : List RuleNode) (ordered : Ordered rule) (some : 0 < length rule) (m : Tree) where
-  abbrev with_path : List ℕ → Tree
+module _ (rule : List RuleNode) (ordered : Ordered rule) (some : 0 < length rule) (m : SetModel) where
+  abbrev with_path : List ℕ → SetModel
   with_path vs = moved m vs m.closed m.waiting
 
   occurs : (v : ℕ) → FitsAt rule m 0 v → OccursAt rule Has m v
@@ -149,7 +150,7 @@ module _ (rule : List RuleNode) (ordered : Ordered rule) (some : 0 < length rule
   fitting v o = embeds_fits rule ordered some (KeptChild m) (MeetsAt Has m) v o.0 o.1
 
   close_at : {s s' : Words} {r : Result Bool Refusal} (vs : List ℕ) → Shows rule s (with_path vs) → Closes rule s r s'
-      → (m' : Tree) × Does rule Has (with_path vs) call.Close (told_by closed r) m' × Shows rule s' m'
+      → (m' : SetModel) × Does rule Has (with_path vs) call.Close (told_by closed r) m' × Shows rule s' m'
   close_at [] h (Closes.none e) = (with_path [], Does.none_to_close refl, h)
   close_at [] h (Closes.full l ps w e found k n) = let P : List Level → Type 0 = LevelsStand rule (with_path []) [] in absurd (subst P e h.levels)
   close_at [] h (Closes.selects l ps w e found k n) = let P : List Level → Type 0 = LevelsStand rule (with_path []) [] in absurd (subst P e h.levels)
@@ -192,5 +193,5 @@ module _ (rule : List RuleNode) (ordered : Ordered rule) (some : 0 < length rule
       )
 
   pub close_sim : {s s' : Words} {r : Result Bool Refusal} → Shows rule s m → Closes rule s r s'
-      → (m' : Tree) × Does rule Has m call.Close (told_by closed r) m' × Shows rule s' m'
+      → (m' : SetModel) × Does rule Has m call.Close (told_by closed r) m' × Shows rule s' m'
   close_sim h c = close_at m.path h c

@@ -17,7 +17,7 @@ use Rattle.rules.proofs.Formed.{given_some, given_ordered}
 use Rattle.runs.specs.declared.call.Call.{Call}
 use Rattle.runs.specs.Model.{Model, empty}
 use Rattle.runs.specs.Examples.{names, Reports, WorkedTrees}
-use Rattle.runs.proofs.Decide.{holds, holds_decides, after_all, all_accepted, plays}
+use Rattle.runs.proofs.OccursTest.{holds, holds_decides, after_all, all_accepted, plays}
 
 -- the label l meets the test of rule node x
 abbrev meets_test : List RuleNode → List (List ℕ) → List ℕ → ℕ → Bool

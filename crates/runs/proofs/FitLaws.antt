@@ -9,7 +9,7 @@ use Rattle.rules.specs.Embedding.{Below, direct, deeper, Across}
 use Rattle.runs.specs.declared.levels.Level.{Level}
 use Rattle.runs.specs.Bits.{Has}
 use Rattle.runs.specs.Edges.{asked}
-use Rattle.runs.specs.Words.{Found}
+use Rattle.runs.specs.LevelCalls.{Found}
 use Rattle.runs.specs.Stands.{Fits}
 
 -- a choice for each y for which H holds, where H can be decided

@@ -1,12 +1,12 @@
 pub mod BitLaws
-pub mod SetLaws
+pub mod SearchLaws
 pub mod EdgeLaws
 pub mod NthLaws
 pub mod WordLaws
 pub mod FitLaws
 pub mod EmbedLaws
 pub mod TreeLaws
-pub mod PathLaws
+pub mod LevelLaws
 pub mod PickLaws
 pub mod SelectedLaws
 pub mod PlayLaws
@@ -15,7 +15,7 @@ pub mod OpenSim
 pub mod CloseSim
 pub mod TakeSim
 pub mod RunLaws
-pub mod JournalLaws
+pub mod MadeCallLaws
 pub mod ReplayLaws
-pub mod Decide
+pub mod OccursTest
 pub mod Examples

@@ -8,21 +8,22 @@ use Rattle.runs.specs.declared.levels.Level.{Level}
 use Rattle.runs.specs.declared.refusal.Refusal.{Refusal}
 use Rattle.runs.specs.declared.call.Call.TheVariants as call
 use Rattle.runs.specs.Bits.{Has}
-use Rattle.runs.specs.Words.{Words, Opens, Drops}
+use Rattle.runs.specs.Words.{Words}
+use Rattle.runs.specs.LevelCalls.{Opens, Drops}
 use Rattle.runs.specs.Picks.{In}
 use Rattle.runs.specs.Answers.{told_by, opened, dropped}
 use Rattle.runs.specs.Model.{innermost, KeptChild, opening, dropping, Does}
-use Rattle.runs.specs.Stands.{Tree, ClosedChild, LevelsStand, Chain, Shows}
+use Rattle.runs.specs.Stands.{SetModel, ClosedChild, LevelsStand, Chain, Shows}
 use Rattle.runs.proofs.BitLaws.{has_none}
 use Rattle.runs.proofs.TreeLaws.{Off, drop_fw, drop_bw, drop_chain, drop_inside, Off₁, longer, last, within₁, child_on, child_off, open_fw, open_bw, same₁, open_chain, open_parents, open_inside}
-use Rattle.runs.proofs.PathLaws.{level_keep, levels_keep, fits_same, within_same}
+use Rattle.runs.proofs.LevelLaws.{level_keep, levels_keep, fits_same, within_same}
 
 -- ---- dropping the innermost open node v
-module _ (rule : List RuleNode) (m : Tree) (v : ℕ) (vs : List ℕ) (chain : Chain m (v ∷ vs)) (parents : ParentsFirst m.nodes) where
-  abbrev m₀ : Tree
+module _ (rule : List RuleNode) (m : SetModel) (v : ℕ) (vs : List ℕ) (chain : Chain m (v ∷ vs)) (parents : ParentsFirst m.nodes) where
+  abbrev m₀ : SetModel
   m₀ = record { nodes = m.nodes; path = v ∷ vs; dropped = m.dropped; closed = m.closed; waiting = m.waiting; handed = m.handed }
 
-  abbrev m₁ : Tree
+  abbrev m₁ : SetModel
   m₁ = dropping m v vs
 
   abbrev fw : (u d : ℕ) → Off m v vs chain parents u → KeptChild m₀ u d → Off m v vs chain parents d × KeptChild m₁ u d
@@ -57,12 +58,12 @@ module _ (rule : List RuleNode) (m : Tree) (v : ℕ) (vs : List ℕ) (chain : Ch
         inside = drop_inside m v vs chain parents h.inside;
       }
 
-module _ (rule : List RuleNode) (m : Tree) where
-  abbrev with_path : List ℕ → Tree
+module _ (rule : List RuleNode) (m : SetModel) where
+  abbrev with_path : List ℕ → SetModel
   with_path vs = record { nodes = m.nodes; path = vs; dropped = m.dropped; closed = m.closed; waiting = m.waiting; handed = m.handed }
 
   drop_at : {s s' : Words} {r : Result (Unit {0}) Refusal} (vs : List ℕ) → Shows rule s (with_path vs) → Drops s r s'
-      → (m' : Tree) × Does rule Has (with_path vs) call.Drop (told_by (λ _. dropped) r) m' × Shows rule s' m'
+      → (m' : SetModel) × Does rule Has (with_path vs) call.Drop (told_by (λ _. dropped) r) m' × Shows rule s' m'
   drop_at [] h (Drops.none e) = (with_path [], Does.none_to_drop refl, h)
   drop_at [] h (Drops.drops l ps e) = let P : List Level → Type 0 = LevelsStand rule (with_path []) [] in absurd (subst P e h.levels)
   drop_at (v ∷ vs) h (Drops.none e) = let P : List Level → Type 0 = LevelsStand rule (with_path (v ∷ vs)) (v ∷ vs) in absurd (subst P e h.levels)
@@ -70,16 +71,16 @@ module _ (rule : List RuleNode) (m : Tree) where
       (dropping m v vs, Does.drops v vs refl, drop_shows rule m v vs h.chain h.parents s l ps e h)
 
   pub drop_sim : {s s' : Words} {r : Result (Unit {0}) Refusal} → Shows rule s m → Drops s r s'
-      → (m' : Tree) × Does rule Has m call.Drop (told_by (λ _. dropped) r) m' × Shows rule s' m'
+      → (m' : SetModel) × Does rule Has m call.Drop (told_by (λ _. dropped) r) m' × Shows rule s' m'
   drop_sim h c = drop_at m.path h c
 
 -- ---- opening a node that meets the tests w
-module _ (rule : List RuleNode) (m : Tree) (w : ℕ) (chain : Chain m m.path) (parents : ParentsFirst m.nodes)
+module _ (rule : List RuleNode) (m : SetModel) (w : ℕ) (chain : Chain m m.path) (parents : ParentsFirst m.nodes)
     (inside : (d : ℕ) → In d m.dropped → d < length m.nodes) where
   abbrev n : ℕ
   n = length m.nodes
 
-  abbrev o₁ : Tree
+  abbrev o₁ : SetModel
   o₁ = opening m w
 
   abbrev Old : ℕ → Type 0
@@ -122,19 +123,19 @@ module _ (rule : List RuleNode) (m : Tree) (w : ℕ) (chain : Chain m m.path) (p
     inside = open_inside m w chain parents inside;
   }
 
-pub same_length : (rule : List RuleNode) (m : Tree) (vs : List ℕ) (ls : List Level) → LevelsStand rule m vs ls → length ls ≡ length vs
+pub same_length : (rule : List RuleNode) (m : SetModel) (vs : List ℕ) (ls : List Level) → LevelsStand rule m vs ls → length ls ≡ length vs
 same_length rule m [] [] s = refl
 same_length rule m [] (l ∷ ls) s = absurd s
 same_length rule m (v ∷ vs) [] s = absurd s
 same_length rule m (v ∷ vs) (l ∷ ls) s = ap suc (same_length rule m vs ls s.1)
 
-pub open_sim : (rule : List RuleNode) (m : Tree) (w : ℕ) {s s' : Words} {r : Result ℕ Refusal} → Shows rule s m → Opens w s r s'
-    → (m' : Tree) × Does rule Has m (call.Open w) (told_by opened r) m' × Shows rule s' m'
+pub open_sim : (rule : List RuleNode) (m : SetModel) (w : ℕ) {s s' : Words} {r : Result ℕ Refusal} → Shows rule s m → Opens w s r s'
+    → (m' : SetModel) × Does rule Has m (call.Open w) (told_by opened r) m' × Shows rule s' m'
 open_sim rule m w {s} h (Opens.deep e) = (m, Does.too_deep w (sym (same_length rule m m.path s.stack h.levels) ∙ e), h)
 open_sim rule m w {s} h (Opens.many e f) =
     (m, Does.too_many w (omega (arith, same_length rule m m.path s.stack h.levels)) (sym h.opened ∙ f), h)
 open_sim rule m w {s} h (Opens.fine e f) =
-    let P : ℕ → Type 0 = λ k. (m' : Tree) × Does rule Has m (call.Open w) (told_by opened (Ok k)) m'
+    let P : ℕ → Type 0 = λ k. (m' : SetModel) × Does rule Has m (call.Open w) (told_by opened (Ok k)) m'
     × Shows rule (record { stack = record { met = w; child = 0; below = 0; number = k } ∷ s.stack; opened = k + 1; waiting = s.waiting }) m' in
     subst P (sym h.opened) (
       opening m w,

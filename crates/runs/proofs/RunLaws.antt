@@ -11,10 +11,11 @@ use Rattle.runs.specs.declared.levels.Levels.{Levels}
 use Rattle.runs.specs.declared.run.Run.{Run}
 use Rattle.runs.specs.declared.call.Call.TheVariants.{Close, Drop}
 use Rattle.runs.specs.Bits.{Has}
-use Rattle.runs.specs.Words.{Words, Opens, Closes, Drops, Takes, Kept, words, no_words, stacked}
+use Rattle.runs.specs.Words.{Words, words, no_words, stacked}
+use Rattle.runs.specs.LevelCalls.{Opens, Closes, Drops, Takes, Kept}
 use Rattle.runs.specs.Answers.{told_by, opened, closed, dropped}
 use Rattle.runs.specs.Model.{empty, taking}
-use Rattle.runs.specs.Stands.{Tree, Stands, Shows}
+use Rattle.runs.specs.Stands.{SetModel, Stands, Shows}
 use Rattle.runs.specs.Calls.{Moves, MovesOpen, MovesTake, Unaltered}
 use Rattle.runs.proofs.WordLaws.{length_stacked, length_queued}
 use Rattle.runs.proofs.OpenSim.{open_sim, drop_sim, same_length}
@@ -27,7 +28,7 @@ run_kept run run' (Ok x) e k = tt
 run_kept run run' (Err x) e k = λ i. record {
   rule = e i;
   state = k i;
-  real = is_prop→PathP (λ i. ∥ ((m : Tree) × Stands (rule_nodes (e i).now) (k i) m) ∥₁) (λ i. ∥∥₁_prop) run'.real run.real i;
+  real = is_prop→PathP (λ i. ∥ ((m : SetModel) × Stands (rule_nodes (e i).now) (k i) m) ∥₁) (λ i. ∥∥₁_prop) run'.real run.real i;
 }
 
 -- nothing open shows the empty model
@@ -47,7 +48,7 @@ module _ (rule : Rule) (s : Levels) where
 
   -- the state stands for some state of the model
   abbrev Real : Levels → Type 0
-  Real t = ∥ ((m : Tree) × Stands nodes t m) ∥₁
+  Real t = ∥ ((m : SetModel) × Stands nodes t m) ∥₁
 
   pub new_stands : words s ≡ no_words → Stands nodes s empty
   new_stands e = let P : Words → Type 0 = λ w. Shows nodes w empty in subst P (sym e) (new_shows nodes)
@@ -55,13 +56,13 @@ module _ (rule : Rule) (s : Levels) where
   pub new_real : words s ≡ no_words → Real s
   new_real e = ∣ (empty, new_stands e) ∣₁
 
-  pub depth_tells : (m : Tree) → Stands nodes s m → s.depth ≡ length m.path
+  pub depth_tells : (m : SetModel) → Stands nodes s m → s.depth ≡ length m.path
   depth_tells m h = sym (length_stacked s.open s.depth) ∙ same_length nodes m m.path (stacked s.open s.depth) h.levels
 
-  pub opened_tells : (m : Tree) → Stands nodes s m → s.opened ≡ length m.nodes
+  pub opened_tells : (m : SetModel) → Stands nodes s m → s.opened ≡ length m.nodes
   opened_tells m h = h.opened
 
-  pub waiting_tells : (m : Tree) → Stands nodes s m → s.waiting ≡ length m.waiting
+  pub waiting_tells : (m : SetModel) → Stands nodes s m → s.waiting ≡ length m.waiting
   waiting_tells m h = sym (length_queued s.ring s.head s.waiting) ∙ ap length h.waiting
 
   module _ (s' : Levels) where

@@ -5,11 +5,12 @@ use Rattle.std.proofs.lemmas.Bool.{cases_lt}
 use Rattle.rules.specs.declared.node.RuleNode.{RuleNode}
 use Rattle.runs.specs.declared.call.Call.TheVariants as call
 use Rattle.runs.specs.Bits.{Has}
-use Rattle.runs.specs.Words.{Words, Takes}
+use Rattle.runs.specs.Words.{Words}
+use Rattle.runs.specs.LevelCalls.{Takes}
 use Rattle.runs.specs.Answers.{taken}
 use Rattle.runs.specs.Model.{taking, Does}
-use Rattle.runs.specs.Stands.{Tree, Chain, Shows}
-use Rattle.runs.proofs.PathLaws.{levels_keep}
+use Rattle.runs.specs.Stands.{SetModel, Chain, Shows}
+use Rattle.runs.proofs.LevelLaws.{levels_keep}
 
 -- as many as there are, or n
 pub take_min : (ws : List ℕ) (n r : ℕ) → r ≡ min (length ws) n → (take r ws ≡ take n ws) × (drop r ws ≡ drop n ws)
@@ -22,11 +23,11 @@ take_min ws n r e =
     (λ l. let f : r ≡ n = omega arith in (ap (λ (k : ℕ). take k ws) f, ap (λ (k : ℕ). drop k ws) f))
     (cases_lt (length ws) n)
 
-chain_keep : (m : Tree) (n : ℕ) (vs : List ℕ) → Chain m vs → Chain (taking m n) vs
+chain_keep : (m : SetModel) (n : ℕ) (vs : List ℕ) → Chain m vs → Chain (taking m n) vs
 chain_keep m n [] c = c
 chain_keep m n (v ∷ vs) c = (c.0, c.1, chain_keep m n vs c.2)
 
-module _ (rule : List RuleNode) (m : Tree) (s s' : Words) (xs ys : List ℕ) (n : ℕ) (h : Shows rule s m) (k : Takes s xs n ys s') where
+module _ (rule : List RuleNode) (m : SetModel) (s s' : Words) (xs ys : List ℕ) (n : ℕ) (h : Shows rule s m) (k : Takes s xs n ys s') where
   count : n ≡ min (length m.waiting) (length xs)
   count = k.count ∙ ap (λ (ws : List ℕ). min (length ws) (length xs)) h.waiting
 

@@ -9,7 +9,8 @@ use Rattle.runs.specs.Edges.{EdgesMet}
 use Rattle.runs.specs.declared.refusal.Refusal.{Refusal}
 use Rattle.runs.specs.declared.refusal.Refusal.TheVariants.{NothingOpen, WaitingFull, TooDeep, TooMany}
 use Rattle.runs.specs.Limits.{depth_limit, waiting_limit, openings_limit}
-use Rattle.runs.specs.Words.{Words, new_level, stacked, queued, no_level, merged, joined, Opens, Closes, Drops, FoundAt, Innermost, Waits, WaitFails, Merges, words, above}
+use Rattle.runs.specs.Words.{Words, new_level, stacked, queued, no_level, words}
+use Rattle.runs.specs.LevelCalls.{merged, joined, Opens, Closes, Drops, FoundAt, Innermost, Waits, WaitFails, Merges, above}
 
 pub length_stacked : (ls : List Level) (n : ℕ) → length (stacked ls n) ≡ n
 length_stacked ls zero = refl

@@ -10,21 +10,21 @@ use Rattle.runs.specs.declared.run.Run.{Run}
 use Rattle.runs.specs.Bits.{Has}
 use Rattle.runs.specs.Answers.{Told, taken}
 use Rattle.runs.specs.Model.{Does}
-use Rattle.runs.specs.Stands.{Tree, Stands}
+use Rattle.runs.specs.Stands.{SetModel, Stands}
 
 abbrev pub nodes_of : Run → List RuleNode
 nodes_of run = rule_nodes run.rule.now
 
-abbrev pub StandsFor : Run → Tree → Type 0
+abbrev pub StandsFor : Run → SetModel → Type 0
 StandsFor run m = Stands (nodes_of run) run.state m
 
 -- n is what f tells of a state that the run stands for
-abbrev pub Tells : Run → (Tree → ℕ) → ℕ → Type 0
-Tells run f n = (m : Tree) → StandsFor run m → n ≡ f m
+abbrev pub Tells : Run → (SetModel → ℕ) → ℕ → Type 0
+Tells run f n = (m : SetModel) → StandsFor run m → n ≡ f m
 
 -- A call. Whatever state of the model s stood for, the answer tells what the model says, and s' stands for the model's next state.
 pub record Moves (rule : List RuleNode) (s : Levels) (c : Call ℕ) (t : Told) (s' : Levels) : Type 0 where
-  pub model : (m : Tree) → Stands rule s m → (m' : Tree) × Does rule Has m c t m' × Stands rule s' m'
+  pub model : (m : SetModel) → Stands rule s m → (m' : SetModel) × Does rule Has m c t m' × Stands rule s' m'
 
 -- the opening of a node whose label meets the tests of the rule nodes `meets`: the node carries them as a set
 pub record MovesOpen (rule : List RuleNode) (s : Levels) (meets : ℕ → Type 0) (t : Told) (s' : Levels) : Type 0 where
@@ -36,7 +36,7 @@ pub record MovesOpen (rule : List RuleNode) (s : Levels) (meets : ℕ → Type 0
 pub record MovesTake (rule : List RuleNode) (s : Levels) (xs : List ℕ) (n : ℕ) (ys : List ℕ) (s' : Levels) : Type 0 where
   pub moves : Moves rule s (Take (length xs)) (taken n) s'
   pub fits : n ≤ length xs
-  pub list : (m : Tree) → Stands rule s m → ys ≡ take n m.waiting ++ drop n xs
+  pub list : (m : SetModel) → Stands rule s m → ys ≡ take n m.waiting ++ drop n xs
 
 -- the same of a run, which keeps its rule
 pub record Steps (run : Run) (c : Call ℕ) (t : Told) (run' : Run) : Type 0 where

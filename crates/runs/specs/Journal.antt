@@ -14,7 +14,7 @@ use Rattle.runs.specs.declared.journal.Shortage.TheVariants.{Answers, Numbers}
 use Rattle.runs.specs.Bits.{Has}
 use Rattle.runs.specs.Answers.{Told, told}
 use Rattle.runs.specs.Model.{Model, empty, Plays, Selected}
-use Rattle.runs.specs.Stands.{Tree, Stands}
+use Rattle.runs.specs.Stands.{SetModel, Stands}
 
 -- the nodes carry labels, and the same nodes the sets of the rule nodes whose tests these labels meet
 abbrev pub SetsOf : {L : Type 0} → List RuleNode → (L → ℕ → Type 0) → Nodes L → Nodes ℕ → Type 0
@@ -24,7 +24,7 @@ SetsOf rule meets (n ∷ ns) [] = ⊥
 SetsOf rule meets (n ∷ ns) (s ∷ ss) = (s.0 ≡ n.0) × ((x : ℕ) → Has s.1 x ↔ ((x < length rule) × meets n.1 x)) × SetsOf rule meets ns ss
 
 -- the state t is the state m with sets in place of labels
-pub record Carried {L : Type 0} (rule : List RuleNode) (meets : L → ℕ → Type 0) (m : Model L) (t : Tree) : Type 0 where
+pub record Carried {L : Type 0} (rule : List RuleNode) (meets : L → ℕ → Type 0) (m : Model L) (t : SetModel) : Type 0 where
   pub nodes : SetsOf rule meets m.nodes t.nodes
   pub path : t.path ≡ m.path
   pub dropped : t.dropped ≡ m.dropped
@@ -44,7 +44,7 @@ module _ {L : Type 0} (same : L → L → Bool) (rule : Rule) (labels : List L) 
   -- the run is of this rule, and its state stands for a state whose nodes carry labels
   pub record StandsAt (run : Run) (m : Model L) : Type 0 where
     pub rule_is : run.rule.now ≡ rule
-    pub tree : Tree
+    pub tree : SetModel
     pub stands : Stands (rule_nodes rule) run.state tree
     pub carried : Carried (rule_nodes rule) meets m tree
 

@@ -5,6 +5,7 @@ pub mod Answers
 pub mod Bits
 pub mod Edges
 pub mod Words
+pub mod LevelCalls
 pub mod Model
 pub mod Stands
 pub mod Calls

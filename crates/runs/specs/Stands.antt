@@ -20,29 +20,29 @@ pub data Fits (rule : List RuleNode) (Child Meets : ℕ → ℕ → Type 0) : �
       → Fits rule Child Meets x v
 
 -- At a run's own calls each node carries the set of the rule nodes whose tests its label meets.
-abbrev pub Tree : Type 0
-Tree = Model ℕ
+abbrev pub SetModel : Type 0
+SetModel = Model ℕ
 
-abbrev pub FitsAt : List RuleNode → Tree → ℕ → ℕ → Type 0
+abbrev pub FitsAt : List RuleNode → SetModel → ℕ → ℕ → Type 0
 FitsAt rule m x v = Fits rule (KeptChild m) (MeetsAt Has m) x v
 
 -- d is a child of u that was not dropped and is no longer open
-abbrev pub ClosedChild : Tree → ℕ → ℕ → Type 0
+abbrev pub ClosedChild : SetModel → ℕ → ℕ → Type 0
 ClosedChild m u d = KeptChild m u d × (In d m.path → ⊥)
 
 -- y fits at d or below it
-abbrev pub FitsWithin : List RuleNode → Tree → ℕ → ℕ → Type 0
+abbrev pub FitsWithin : List RuleNode → SetModel → ℕ → ℕ → Type 0
 FitsWithin rule m y d = FitsAt rule m y d ⊎ ((c : ℕ) × Below (KeptChild m) d c × FitsAt rule m y c)
 
 -- A level stands for the open node v: its words hold the rule nodes whose tests v meets, those that fit at a closed child of
 -- v, and those that fit at or below a closed child of v.
-pub record LevelStands (rule : List RuleNode) (m : Tree) (v : ℕ) (l : Level) : Type 0 where
+pub record LevelStands (rule : List RuleNode) (m : SetModel) (v : ℕ) (l : Level) : Type 0 where
   pub number : l.number ≡ v
   pub met : (p : Option ℕ) × (slice_get m.nodes v ≡ Some (p, l.met))
   pub child : (y : ℕ) → Has l.child y ↔ ((d : ℕ) × ClosedChild m v d × FitsAt rule m y d)
   pub below : (y : ℕ) → Has l.below y ↔ ((d : ℕ) × ClosedChild m v d × FitsWithin rule m y d)
 
-abbrev pub LevelsStand : List RuleNode → Tree → List ℕ → List Level → Type 0
+abbrev pub LevelsStand : List RuleNode → SetModel → List ℕ → List Level → Type 0
 LevelsStand rule m [] [] = Unit {0}
 LevelsStand rule m [] (l ∷ ls) = ⊥
 LevelsStand rule m (v ∷ vs) [] = ⊥
@@ -54,7 +54,7 @@ Chain m [] = Unit {0}
 Chain {A} m (v ∷ vs) = ((a : A) × (slice_get m.nodes v ≡ Some (innermost vs, a))) × (In v m.dropped → ⊥) × Chain m vs
 
 -- The state s, as lists, stands for the model m.
-pub record Shows (rule : List RuleNode) (s : Words) (m : Tree) : Type 0 where
+pub record Shows (rule : List RuleNode) (s : Words) (m : SetModel) : Type 0 where
   pub opened : s.opened ≡ length m.nodes
   pub waiting : s.waiting ≡ m.waiting
   pub levels : LevelsStand rule m m.path s.stack
@@ -62,5 +62,5 @@ pub record Shows (rule : List RuleNode) (s : Words) (m : Tree) : Type 0 where
   pub parents : ParentsFirst m.nodes
   pub inside : (d : ℕ) → In d m.dropped → d < length m.nodes
 
-abbrev pub Stands : List RuleNode → Levels → Tree → Type 0
+abbrev pub Stands : List RuleNode → Levels → SetModel → Type 0
 Stands rule s m = Shows rule (words s) m

@@ -1,6 +1,6 @@
 //! The value of a run.
 ghost use Rattle.rules.specs.RuleNodes.{rule_nodes};
-ghost use Rattle.runs.specs.Stands.{Tree, Stands};
+ghost use Rattle.runs.specs.Stands.{SetModel, Stands};
 
 use crate::levels::Levels;
 use rules::rule::Rule;
@@ -19,5 +19,5 @@ pub const OPENINGS_LIMIT: u32 = 1_000_000;
 pub struct Run<'r> {
     pub(crate) rule: &'r Rule,
     pub(crate) state: Levels,
-    ghost real: { ∥ ((m : Tree) × Stands (rule_nodes rule.now) state m) ∥₁ },
+    ghost real: { ∥ ((m : SetModel) × Stands (rule_nodes rule.now) state m) ∥₁ },
 }

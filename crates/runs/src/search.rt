@@ -10,7 +10,7 @@ use labels::kind::LabelKind;
 use rules::rule::Rule;
 
 // The rule nodes that every label meets.
-#[tactic(auto, using(crate::proofs::SetLaws::any_nodes))]
+#[tactic(auto, using(crate::proofs::SearchLaws::any_nodes))]
 fn any_nodes(rule: &Rule) -> NodeSet
     ensures { (x : ℕ) → Has result x ↔ ((x < length (rule_nodes rule.now)) × (any_of (rule_nodes rule.now) x ≡ true)) }
 {
@@ -24,7 +24,7 @@ fn any_nodes(rule: &Rule) -> NodeSet
 }
 
 /// The rule nodes whose test `label` meets, where `labels` has the labels of the tests by the numbers of the rule nodes.
-#[tactic(auto, using(crate::proofs::SetLaws::named_nodes))]
+#[tactic(auto, using(crate::proofs::SearchLaws::named_nodes))]
 pub fn nodes_met<L: LabelKind>(rule: &Rule, labels: &[L], label: &L) -> NodeSet
     ensures { (x : ℕ) → Has result x ↔ ((x < length (rule_nodes rule.now)) × Meets L.eq (rule_nodes rule.now) labels.now label.now x) }
 {

@@ -1,8 +1,9 @@
 //! The calls, on the levels and the ring.
 ghost use Rattle.std.specs.Prelude.{◌≡◌, ◌<◌, MatchResult};
 ghost use Rattle.rules.specs.RuleNodes.{rule_nodes};
-ghost use Rattle.runs.specs.Words.{new_level, joined, words, no_words, Opens, Closes, Drops, Takes, Kept};
-ghost use Rattle.runs.specs.Words.{FoundAt, Innermost, Waits, WaitFails, Merges};
+ghost use Rattle.runs.specs.Words.{new_level, words, no_words};
+ghost use Rattle.runs.specs.LevelCalls.{joined, Opens, Closes, Drops, Takes, Kept};
+ghost use Rattle.runs.specs.LevelCalls.{FoundAt, Innermost, Waits, WaitFails, Merges};
 
 use crate::edges::edges_met;
 use crate::levels::{Level, Levels};

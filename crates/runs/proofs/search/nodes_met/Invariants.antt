@@ -1,7 +1,7 @@
 use Rattle.std.proofs.Common.{ℕ, ◌↔◌}
 use Rattle.rules.specs.RuleNodes.{rule_nodes}
 use Rattle.runs.specs.Bits.{Has}
-use Rattle.runs.proofs.SetLaws.{Named}
+use Rattle.runs.proofs.SearchLaws.{Named}
 use Rattle.runs.proofs.search.nodes_met.Given as goal
 
 abbrev pub invariant-loop-x : goal.invariant-loop-x

@@ -1,5 +1,5 @@
 use Rattle.std.proofs.Common.{refl, arith}
-use Rattle.runs.proofs.JournalLaws.{made_open, made_close, made_drop, made_take}
+use Rattle.runs.proofs.MadeCallLaws.{made_open, made_close, made_drop, made_take}
 use Rattle.runs.proofs.run.Run.make.Goals as goal
 
 pub returns-in-Open : goal.returns-in-Open

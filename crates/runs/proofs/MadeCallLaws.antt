@@ -14,7 +14,7 @@ use Rattle.runs.specs.Bits.{Has}
 use Rattle.runs.specs.Refusals.{number}
 use Rattle.runs.specs.Answers.{Told, told, told_by, moved, opened, closed, dropped, taken, refused}
 use Rattle.runs.specs.Model.{Model, Does, taking}
-use Rattle.runs.specs.Stands.{Tree, Stands}
+use Rattle.runs.specs.Stands.{SetModel, Stands}
 use Rattle.runs.specs.Calls.{nodes_of, Moves, Opening, Steps, Taking}
 use Rattle.runs.specs.Journal.{Filled, meets, StandsAt, Carried}
 use Rattle.runs.specs.MadeCall.{Made}
@@ -54,7 +54,7 @@ untaken_drop (Ok u) n e = not_dropped n e
 untaken_drop (Err k) n e = not_refused n (number k) e
 
 -- what a taking does
-took : (rule : List RuleNode) (t : Tree) (k : ℕ) {r : Told} {t' : Tree} → Does rule Has t (Take k) r t' → (r ≡ taken (min (length t.waiting) k)) × (t' ≡ taking t k)
+took : (rule : List RuleNode) (t : SetModel) (k : ℕ) {r : Told} {t' : SetModel} → Does rule Has t (Take k) r t' → (r ≡ taken (min (length t.waiting) k)) × (t' ≡ taking t k)
 took rule t k (Does.takes j) = (refl, refl)
 
 taken_inj : (n k : ℕ) → taken n ≡ taken k → n ≡ k
@@ -72,23 +72,23 @@ module _ {L : Type 0} (same : L → L → Bool) (rule : Rule) (labels : List L) 
 
   -- a call that moves no number
   module _ (m : Model L) (run run' : Run) (at : StandsAt same rule labels run m) (rules : run'.rule.now ≡ run.rule.now) (c : Call L) (a : Answer) (out : List ℕ) where
-    abbrev t : Tree
+    abbrev t : SetModel
     t = at.tree
 
     here : Stands (nodes_of run) run.state t
     here = let P : Rule → Type 0 = λ r. Stands (rule_nodes r) run.state t in subst P (sym at.rule_is) at.stands
 
-    there : (t' : Tree) → Stands (nodes_of run) run'.state t' → Stands nodes run'.state t'
+    there : (t' : SetModel) → Stands (nodes_of run) run'.state t' → Stands nodes run'.state t'
     there t' s = let P : Rule → Type 0 = λ r. Stands (rule_nodes r) run'.state t' in subst P at.rule_is s
 
-    by_rule : (k : Call ℕ) (r : Told) (t' : Tree) → Does (nodes_of run) Has t k r t' → Does nodes Has t k r t'
+    by_rule : (k : Call ℕ) (r : Told) (t' : SetModel) → Does (nodes_of run) Has t k r t' → Does nodes Has t k r t'
     by_rule k r t' d = let P : Rule → Type 0 = λ q. Does (rule_nodes q) Has t k r t' in subst P at.rule_is d
 
-    stands : (t' : Tree) → Stands (nodes_of run) run'.state t' → (m' : Model L) → Carried nodes tests m' t' → StandsAt same rule labels run' m'
+    stands : (t' : SetModel) → Stands (nodes_of run) run'.state t' → (m' : Model L) → Carried nodes tests m' t' → StandsAt same rule labels run' m'
     stands t' s m' k = record { rule_is = rules ∙ at.rule_is; tree = t'; stands = there t' s; carried = k }
 
     pub unmoved : (k : Call ℕ) (r : Told) → Moves (nodes_of run) run.state k r run'.state
-        → ((t' : Tree) → Does nodes Has t k r t' → (m' : Model L) × Does nodes tests m c r m' × Carried nodes tests m' t')
+        → ((t' : SetModel) → Does nodes Has t k r t' → (m' : Model L) × Does nodes tests m c r m' × Carried nodes tests m' t')
         → ((m' : Model L) → Does nodes tests m c r m' → m'.handed ≡ m.handed)
         → told a ≡ r → ((n : ℕ) → taken n ≡ r → ⊥) → Made same rule labels m c a out out run'
     unmoved k r moves lift hands e never =
@@ -150,7 +150,7 @@ module _ {L : Type 0} (same : L → L → Bool) (rule : Rule) (labels : List L) 
 
     -- a taking of as many numbers as wait and are asked for, at the front of the list
     pub made_take : (size count n : ℕ) (taken_list list : List ℕ) → c ≡ Take size → a ≡ Taken n
-        → ((t : Tree) → Stands (nodes_of run) run.state t → count ≡ min (length t.waiting) size) → count ≤ length out
+        → ((t : SetModel) → Stands (nodes_of run) run.state t → count ≡ min (length t.waiting) size) → count ≤ length out
         → Taking run (take count out) n taken_list run' → list ≡ taken_list ++ drop count out
         → Made same rule labels m c a out list run'
     made_take size count n taken_list list is answer waits fits o whole =
@@ -164,7 +164,7 @@ module _ {L : Type 0} (same : L → L → Bool) (rule : Rule) (labels : List L) 
         let n_is : n ≡ count = omega arith in
         let same_ws = take_min ws size count few in
         let same_wait : length at.tree.waiting ≡ length m.waiting = ap length at.carried.waiting in
-        let t' : Tree = taking at.tree size in
+        let t' : SetModel = taking at.tree size in
         let tree_is : next.0 ≡ taking at.tree size =
         d.1 ∙ ap (λ (k : ℕ). taking at.tree k) len
         ∙ ap₂ (λ (hs us : List ℕ). record { nodes = at.tree.nodes; path = at.tree.path; dropped = at.tree.dropped; closed = at.tree.closed; waiting = us; handed = at.tree.handed ++ hs })
@@ -172,7 +172,7 @@ module _ {L : Type 0} (same : L → L → Bool) (rule : Rule) (labels : List L) 
         let hands : List ℕ = take size m.waiting in
         let is_hands : take n ws ≡ take size m.waiting = ap (λ (k : ℕ). take k ws) n_is ∙ same_ws.0 ∙ ap (take size) at.carried.waiting in
         let many : length (take size m.waiting) ≡ count = ap length (sym (ap (take size) at.carried.waiting) ∙ sym same_ws.0) ∙ length-take-le count ws (omega arith) in
-        let T : Tree → Type 0 = λ x. Stands nodes run'.state x in
+        let T : SetModel → Type 0 = λ x. Stands nodes run'.state x in
         let P : Call L → Type 0 = λ k. Does nodes tests m k (told a) (taking m size) in
         let Q : Told → Type 0 = λ u. Does nodes tests m (Take size) u (taking m size) in
         let told_is : told a ≡ taken (min (length m.waiting) size) = ap told answer ∙ ap (λ (k : ℕ). taken k) (omega arith) in

@@ -6,10 +6,10 @@ use Rattle.runs.specs.declared.levels.Level.{Level}
 use Rattle.runs.specs.Bits.{Has}
 use Rattle.runs.specs.Picks.{In}
 use Rattle.runs.specs.Model.{KeptChild, MeetsAt}
-use Rattle.runs.specs.Stands.{Tree, FitsAt, ClosedChild, FitsWithin, LevelStands, LevelsStand}
+use Rattle.runs.specs.Stands.{SetModel, FitsAt, ClosedChild, FitsWithin, LevelStands, LevelsStand}
 use Rattle.runs.proofs.FitLaws.{below_moves, fits_moves}
 
-pub level_keep : (rule : List RuleNode) (m m' : Tree) (u : ℕ) (l : Level)
+pub level_keep : (rule : List RuleNode) (m m' : SetModel) (u : ℕ) (l : Level)
     → ((p : Option ℕ) (a : ℕ) → slice_get m.nodes u ≡ Some (p, a) → slice_get m'.nodes u ≡ Some (p, a))
     → ((d : ℕ) → ClosedChild m u d ↔ ClosedChild m' u d)
     → ((d y : ℕ) → ClosedChild m u d → FitsAt rule m y d ↔ FitsAt rule m' y d)
@@ -28,7 +28,7 @@ level_keep rule m m' u l same done fits within k = record {
   );
 }
 
-pub levels_keep : (rule : List RuleNode) (m m' : Tree) (vs : List ℕ) (ls : List Level)
+pub levels_keep : (rule : List RuleNode) (m m' : SetModel) (vs : List ℕ) (ls : List Level)
     → ((u : ℕ) (l : Level) → In u vs → LevelStands rule m u l → LevelStands rule m' u l)
     → LevelsStand rule m vs ls → LevelsStand rule m' vs ls
 levels_keep rule m m' [] [] keep s = s
@@ -38,7 +38,7 @@ levels_keep rule m m' (v ∷ vs) (l ∷ ls) keep s =
     (keep v l (inl refl) s.0, levels_keep rule m m' vs ls (λ u k i. keep u k (inr i)) s.1)
 
 -- two trees that agree at and below the nodes with Q
-module _ (rule : List RuleNode) (m m' : Tree) (Q : ℕ → Type 0)
+module _ (rule : List RuleNode) (m m' : SetModel) (Q : ℕ → Type 0)
     (fw : (u v : ℕ) → Q u → KeptChild m u v → Q v × KeptChild m' u v) (bw : (u v : ℕ) → Q u → KeptChild m' u v → Q v × KeptChild m u v)
     (same : (v : ℕ) → Q v → slice_get m.nodes v ≡ slice_get m'.nodes v) where
   there : (x v : ℕ) → Q v → MeetsAt Has m x v → MeetsAt Has m' x v
