@@ -1,5 +1,5 @@
 -- A run as a value, and its calls as calls of the reference model.
-use Rattle.std.proofs.Common.{◌≡◌, ℕ, ◌<◌, ◌↔◌, min, Bool, List, [], ◌++◌, length, take, drop, Some, Ok, Err, Result, refl, sym, ap, ◌∙◌, subst, arith}
+use Rattle.std.proofs.Common.{◌≡◌, ℕ, ◌<◌, ◌↔◌, min, Bool, List, [], ◌++◌, length, take, drop, Some, Ok, Err, OnErr, Result, refl, sym, ap, ◌∙◌, subst, arith}
 use mathlib.Core.HLevel.{is_prop→PathP}
 use mathlib.Core.Logic.{∥∥₁_prop, ∥∥₁_map}
 use Rattle.std.proofs.lemmas.Option.{slice_get_within}
@@ -12,18 +12,18 @@ use Rattle.runs.specs.declared.run.Run.{Run}
 use Rattle.runs.specs.declared.call.Call.TheVariants.{Close, Drop}
 use Rattle.runs.specs.Bits.{Has}
 use Rattle.runs.specs.Words.{Words, words, no_words, stacked}
-use Rattle.runs.specs.LevelCalls.{Opens, Closes, Drops, Takes, Kept}
+use Rattle.runs.specs.LevelCalls.{Opens, Closes, Drops, Takes}
 use Rattle.runs.specs.Answers.{told_by, opened, closed, dropped}
 use Rattle.runs.specs.Model.{empty, taking}
 use Rattle.runs.specs.Stands.{SetModel, Stands, Shows}
-use Rattle.runs.specs.Calls.{Moves, MovesOpen, MovesTake, Unaltered}
+use Rattle.runs.specs.Calls.{Moves, MovesOpen, MovesTake}
 use Rattle.runs.proofs.WordLaws.{length_stacked, length_queued}
 use Rattle.runs.proofs.OpenSim.{open_sim, drop_sim, same_length}
 use Rattle.runs.proofs.CloseSim.{close_sim}
 use Rattle.runs.proofs.TakeSim.{take_does, take_list, take_shows}
 
 -- a run whose state is as it was is as it was
-pub run_kept : {T : Type 0} (run run' : Run) (r : Result T Refusal) → run'.rule ≡ run.rule → Kept run.state r run'.state → Unaltered run r run'
+pub run_kept : {T : Type 0} (run run' : Run) (r : Result T Refusal) → run'.rule ≡ run.rule → OnErr r (run'.state ≡ run.state) → OnErr r (run' ≡ run)
 run_kept run run' (Ok x) e k = tt
 run_kept run run' (Err x) e k = λ i. record {
   rule = e i;

@@ -1,5 +1,5 @@
 -- What the calls of a run do, by the states of the reference model that it stands for.
-use Rattle.std.specs.Prelude.{◌≡◌, ℕ, ◌<◌, ◌≤◌, ◌↔◌, List, ◌++◌, length, take, drop, Ok, Err, Result}
+use Rattle.std.specs.Prelude.{◌≡◌, ℕ, ◌<◌, ◌≤◌, ◌↔◌, List, ◌++◌, length, take, drop}
 use Rattle.rules.specs.declared.node.RuleNode.{RuleNode}
 use Rattle.rules.specs.RuleNodes.{rule_nodes}
 use Rattle.runs.specs.declared.refusal.Refusal.{Refusal}
@@ -50,8 +50,3 @@ pub record Opening (run : Run) (meets : ℕ → Type 0) (t : Told) (run' : Run) 
 pub record Taking (run : Run) (xs : List ℕ) (n : ℕ) (ys : List ℕ) (run' : Run) : Type 0 where
   pub rule : run'.rule.now ≡ run.rule.now
   pub moves : MovesTake (nodes_of run) run.state xs n ys run'.state
-
--- a refused call leaves the run as it was
-abbrev pub Unaltered : {T : Type 0} → Run → Result T Refusal → Run → Type 0
-Unaltered run (Ok x) run' = Unit {0}
-Unaltered run (Err k) run' = run' ≡ run

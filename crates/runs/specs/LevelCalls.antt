@@ -50,11 +50,6 @@ pub record Takes (m : Words) (xs : List ℕ) (n : ℕ) (ys : List ℕ) (m' : Wor
   pub list : ys ≡ take n m.waiting ++ drop n xs
   pub after : m' ≡ record { stack = m.stack; opened = m.opened; waiting = drop n m.waiting }
 
--- a refused call leaves the state as it was
-abbrev pub Kept : {T : Type 0} → Levels → Result T Refusal → Levels → Type 0
-Kept s (Ok x) s' = Unit {0}
-Kept s (Err k) s' = s' ≡ s
-
 -- the parts of a closing: what is found at the node l, and that l is the innermost one
 pub record FoundAt (rule : List RuleNode) (l : Level) (w : ℕ) : Type 0 where
   pub each : Found rule l w

@@ -1,11 +1,11 @@
 //! The calls of a run.
-ghost use Rattle.std.specs.Prelude.{◌≡◌, length};
+ghost use Rattle.std.specs.Prelude.{◌≡◌, length, OnErr};
 ghost use Rattle.rules.specs.Embedding.{Meets};
 ghost use Rattle.rules.specs.RuleNodes.{rule_nodes};
 ghost use Rattle.runs.specs.declared.call.Call.TheVariants.{Close, Drop};
 ghost use Rattle.runs.specs.Answers.{told_by, opened, closed, dropped};
 ghost use Rattle.runs.specs.Model.{empty};
-ghost use Rattle.runs.specs.Calls.{StandsFor, Tells, Steps, Opening, Taking, Unaltered};
+ghost use Rattle.runs.specs.Calls.{StandsFor, Tells, Steps, Opening, Taking};
 
 use crate::levels::Levels;
 use crate::refusal::Refusal;
@@ -32,7 +32,7 @@ impl<'r> Run<'r> {
     #[tactic(auto, using(crate::proofs::RunLaws::open_moves, crate::proofs::RunLaws::open_real, crate::proofs::RunLaws::run_kept))]
     pub fn open<L: LabelKind>(&mut self, labels: &[L], label: &L) -> Result<u32, Refusal>
         ensures step { Opening self.old (Meets L.eq (rule_nodes self.old.rule.now) labels.now label.now) (told_by opened result) self.new }
-        ensures refused { Unaltered self.old result self.new }
+        ensures refused { OnErr result (self.new ≡ self.old) }
     {
         let met = nodes_met(self.rule, labels, label);
         self.state.open(met)
@@ -42,7 +42,7 @@ impl<'r> Run<'r> {
     #[tactic(auto, using(crate::proofs::RunLaws::close_moves, crate::proofs::RunLaws::close_real, crate::proofs::RunLaws::run_kept))]
     pub fn close(&mut self) -> Result<bool, Refusal>
         ensures step { Steps self.old Close (told_by closed result) self.new }
-        ensures refused { Unaltered self.old result self.new }
+        ensures refused { OnErr result (self.new ≡ self.old) }
     {
         self.state.close(self.rule)
     }
@@ -51,7 +51,7 @@ impl<'r> Run<'r> {
     #[tactic(auto, using(crate::proofs::RunLaws::drop_moves, crate::proofs::RunLaws::drop_real, crate::proofs::RunLaws::run_kept))]
     pub fn drop_open(&mut self) -> Result<(), Refusal>
         ensures step { Steps self.old Drop (told_by (λ _. dropped) result) self.new }
-        ensures refused { Unaltered self.old result self.new }
+        ensures refused { OnErr result (self.new ≡ self.old) }
     {
         self.state.drop_open()
     }

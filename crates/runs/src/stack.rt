@@ -1,8 +1,8 @@
 //! The calls, on the levels and the ring.
-ghost use Rattle.std.specs.Prelude.{◌≡◌, ◌<◌, MatchResult};
+ghost use Rattle.std.specs.Prelude.{◌≡◌, ◌<◌, MatchResult, OnErr};
 ghost use Rattle.rules.specs.RuleNodes.{rule_nodes};
 ghost use Rattle.runs.specs.Words.{new_level, words, no_words};
-ghost use Rattle.runs.specs.LevelCalls.{joined, Opens, Closes, Drops, Takes, Kept};
+ghost use Rattle.runs.specs.LevelCalls.{joined, Opens, Closes, Drops, Takes};
 ghost use Rattle.runs.specs.LevelCalls.{FoundAt, Innermost, Waits, WaitFails, Merges};
 
 use crate::edges::edges_met;
@@ -66,7 +66,7 @@ impl Levels {
     #[tactic(auto, using(crate::proofs::WordLaws::opening))]
     pub fn open(&mut self, met: NodeSet) -> Result<u32, Refusal>
         ensures opens { Opens met (words self.old) result (words self.new) }
-        ensures kept { Kept self.old result self.new }
+        ensures kept { OnErr result (self.new ≡ self.old) }
     {
         let at = self.depth;
         if at >= DEPTH_LIMIT {
@@ -86,7 +86,7 @@ impl Levels {
     #[tactic(auto, using(crate::proofs::WordLaws::closing))]
     pub fn close(&mut self, rule: &Rule) -> Result<bool, Refusal>
         ensures closes { Closes (rule_nodes rule.now) (words self.old) result (words self.new) }
-        ensures kept { Kept self.old result self.new }
+        ensures kept { OnErr result (self.new ≡ self.old) }
     {
         if self.depth == 0 {
             return Err(Refusal::NothingOpen);
@@ -114,7 +114,7 @@ impl Levels {
     #[tactic(auto, using(crate::proofs::WordLaws::dropping))]
     pub fn drop_open(&mut self) -> Result<(), Refusal>
         ensures drops { Drops (words self.old) result (words self.new) }
-        ensures kept { Kept self.old result self.new }
+        ensures kept { OnErr result (self.new ≡ self.old) }
     {
         if self.depth == 0 {
             return Err(Refusal::NothingOpen);
