@@ -1,7 +1,6 @@
 #![tactic(auto)]
 
 pub mod call;
-mod calls;
 pub mod edges;
 pub mod journal;
 pub mod laws;
@@ -10,4 +9,3 @@ pub mod node_set;
 pub mod refusal;
 pub mod run;
 pub mod search;
-mod stack;
