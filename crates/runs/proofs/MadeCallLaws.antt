@@ -12,7 +12,7 @@ use Rattle.runs.specs.declared.call.Answer.{Answer}
 use Rattle.runs.specs.declared.call.Answer.TheVariants.{Opened, Closed, Dropped, Taken, Refused}
 use Rattle.runs.specs.Bits.{Has}
 use Rattle.runs.specs.Refusals.{number}
-use Rattle.runs.specs.Answers.{Told, told, told_by, moved, opened, closed, dropped, taken, refused}
+use Rattle.runs.specs.Answers.{Told, told, told_by, count_taken, opened, closed, dropped, taken, refused}
 use Rattle.runs.specs.Model.{Model, Does, taking}
 use Rattle.runs.specs.Stands.{SetModel, Stands}
 use Rattle.runs.specs.Calls.{nodes_of, Moves, Opening, Steps, Taking}
@@ -22,7 +22,7 @@ use Rattle.runs.proofs.CarriedLaws.{lift_open, lift_close, lift_drop, taking_car
 use Rattle.runs.proofs.TakeSim.{take_min}
 
 -- an answer that tells of no taking moved nothing
-still : (a : Answer) (t : Told) → told a ≡ t → ((n : ℕ) → taken n ≡ t → ⊥) → moved a ≡ 0
+still : (a : Answer) (t : Told) → told a ≡ t → ((n : ℕ) → taken n ≡ t → ⊥) → count_taken (told a) ≡ 0
 still (Opened n) t e never = refl
 still (Closed b) t e never = refl
 still Dropped t e never = refl
@@ -187,7 +187,7 @@ module _ {L : Type 0} (same : L → L → Bool) (rule : Rule) (labels : List L) 
           };
           hands = hands;
           handed = refl;
-          count = ap moved answer ∙ n_is ∙ sym many;
+          count = ap (λ (x : Answer). count_taken (told x)) answer ∙ n_is ∙ sym many;
           filled = record {
             fits = omega arith;
             list = whole ∙ ap (λ (ys : List ℕ). ys ++ drop count out)

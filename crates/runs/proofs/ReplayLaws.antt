@@ -1,5 +1,5 @@
 -- The calls of a journal, one after another.
-use Rattle.std.proofs.Common.{◌≡◌, ℕ, ◌+◌, ◌-◌, ◌<◌, ◌≤◌, min, Bool, List, [], ◌∷◌, ◌++◌, length, get_or, set, take, drop, map, Some, sym, refl, ap, ap₂, ◌∙◌, subst, append-nil, append_assoc, arith}
+use Rattle.std.proofs.Common.{◌≡◌, ℕ, ◌+◌, ◌-◌, ◌<◌, ◌≤◌, min, Bool, List, [], ◌∷◌, ◌++◌, length, get_or, set, take, drop, map, Some, None, sym, refl, ap, ap₂, ◌∙◌, subst, append-nil, append_assoc, arith}
 use Rattle.std.specs.List.{slice_get}
 use borrow.Rule.Slice.PartMut.{put_mid}
 use Rattle.std.proofs.lemmas.List.{take_rest, drop_all, map-append, take_more, take_all, drop-drop, drop_more, set_at, length-drop, length_push, length-append, take-append-drop}
@@ -11,8 +11,7 @@ use Rattle.runs.specs.declared.run.Run.{Run}
 use Rattle.runs.specs.declared.call.Call.{Call}
 use Rattle.runs.specs.declared.call.Call.TheVariants.{Take}
 use Rattle.runs.specs.declared.call.Answer.{Answer}
-use Rattle.runs.specs.declared.journal.Shortage.TheVariants.{Answers, Numbers}
-use Rattle.runs.specs.Answers.{Told, told, moved}
+use Rattle.runs.specs.Answers.{Told, told, count_taken}
 use Rattle.runs.specs.Model.{Model, empty, Plays}
 use Rattle.runs.specs.Stands.{Stands}
 use Rattle.runs.specs.Journal.{Filled, meets, StandsAt, Recorded, Replayed, Unfinished}
@@ -35,11 +34,10 @@ module _ {L : Type 0} (same : L → L → Bool) (rule : Rule) (labels : List L) 
   tests = meets same rule labels
 
   -- what the model's plays say of a journal
-  recorded : (calls : List (Call L)) (ts : List Told) (m : Model L) → Plays nodes tests empty calls ts m → Recorded same rule labels calls ts m.handed m
+  recorded : (calls : List (Call L)) (ts : List Told) (m : Model L) → Plays nodes tests empty calls ts m → Recorded same rule labels calls ts m
   recorded calls ts m p = record {
     plays = p;
     only = λ us n q. plays_one nodes tests p q;
-    handed = refl;
     after = λ k l. let b = begun nodes tests p k in record {
       state = b.state;
       plays = b.plays;
@@ -107,17 +105,17 @@ module _ {L : Type 0} (same : L → L → Bool) (rule : Rule) (labels : List L) 
 
       module _ (c : Call L) (a : Answer) (rest : List ℕ) (run' : Run) (in_calls : i < length calls) (is : c ≡ get_or calls i c) (room : length calls ≤ length answers₀)
           (m : Made same rule labels p.state c a (drop handed numbers) rest run') where
-        few : handed + moved a ≤ length numbers₀
+        few : handed + count_taken (told a) ≤ length numbers₀
         few =
             let f : length m.hands ≤ length (drop handed numbers) = m.filled.fits in
             let g : length (drop handed numbers) ≡ length numbers₀ - handed = ap length behind ∙ length-drop handed numbers₀ in
             let k = m.count in
             omega (arith, p.fits)
 
-        pub still_fits : handed + moved a ≤ length numbers₀
+        pub still_fits : handed + count_taken (told a) ≤ length numbers₀
         still_fits = few
 
-        pub playing_more : Playing run' (i + 1) (handed + moved a) (set answers i a) (put_mid handed (length numbers - handed) numbers rest)
+        pub playing_more : Playing run' (i + 1) (handed + count_taken (told a)) (set answers i a) (put_mid handed (length numbers - handed) numbers rest)
         playing_more =
             let next : take (i + 1) calls ≡ take i calls ++ c ∷ [] = take_more calls i c in_calls ∙ ap (λ (x : Call L). take i calls ++ x ∷ []) (sym is) in
             let P : List (Call L) → List Told → Type 0 = λ cs ts. Plays nodes tests empty cs ts m.state in
@@ -159,21 +157,20 @@ module _ {L : Type 0} (same : L → L → Bool) (rule : Rule) (labels : List L) 
       pub replayed : length calls ≤ i → i ≤ length calls → length calls ≤ length answers₀ → Replayed same rule labels calls answers₀ answers numbers₀ numbers run handed
       replayed all l room = record {
         given = p.given;
-        moved = p.state.handed;
         state = p.state;
         all = let k = p.made in omega arith;
         recorded = recorded calls (map told p.given) p.state
             (let P : List (Call L) → Type 0 = λ cs. Plays nodes tests empty cs (map told p.given) p.state in subst P (take_all i calls all) p.plays);
         stands = p.stands;
-        count = p.count;
+        handed = p.count;
         given_first = given_first (omega arith);
-        moved_first = moved_first;
+        handed_first = moved_first;
       }
 
       -- a taking does not fit
       pub unfinished : (c : Call L) (rest : List ℕ) (run' : Run) → i < length calls → c ≡ get_or calls i c → length calls ≤ length answers₀
           → Unmade same rule labels p.state c (drop handed numbers) rest run run'
-          → Unfinished same rule labels calls answers₀ answers numbers₀ (put_mid handed (length numbers - handed) numbers rest) (Numbers i handed)
+          → Unfinished same rule labels calls answers₀ answers numbers₀ (put_mid handed (length numbers - handed) numbers rest) (Some (i, handed))
       unfinished c rest run' in_calls is room u =
           let whole : put_mid handed (length numbers - handed) numbers rest ≡ numbers = put_end handed numbers rest ∙ ap (λ (xs : List ℕ). take handed numbers ++ xs) u.list ∙ take-append-drop handed numbers in
           let there : slice_get calls i ≡ Some (Take u.size) =
@@ -184,12 +181,12 @@ module _ {L : Type 0} (same : L → L → Bool) (rule : Rule) (labels : List L) 
           let k = p.count in
           let f = p.fits in
           omega arith in
-          let E : ℕ → Type 0 = λ k. Unfinished same rule labels calls answers₀ answers numbers₀ (put_mid handed (length numbers - handed) numbers rest) (Numbers i k) in
+          let E : ℕ → Type 0 = λ k. Unfinished same rule labels calls answers₀ answers numbers₀ (put_mid handed (length numbers - handed) numbers rest) (Some (i, k)) in
           let F : List ℕ → Type 0 = λ xs. Filled numbers₀ p.state.handed xs in
           subst E (sym p.count)
-          (Unfinished.few_numbers i u.size p.given p.state.handed p.state room there p.made (recorded (take i calls) (map told p.given) p.state p.plays) short
+          (Unfinished.few_numbers i u.size p.given p.state room there p.made (recorded (take i calls) (map told p.given) p.state p.plays) short
           (given_first (omega arith)) (subst F (sym whole) moved_first))
 
   pub few_answers : (calls : List (Call L)) (answers : List Answer) (numbers : List ℕ) → length answers < length calls
-      → Unfinished same rule labels calls answers answers numbers numbers Answers
+      → Unfinished same rule labels calls answers answers numbers numbers None
   few_answers calls answers numbers l = Unfinished.few_answers l refl refl

@@ -26,7 +26,12 @@ abbrev pub told_by : {T : Type 0} → (T → Told) → Result T Refusal → Told
 told_by tells (Ok x) = tells x
 told_by tells (Err k) = refused (number k)
 
+-- the call is accepted
+abbrev pub Accepted : Told → Type 0
+Accepted (refused k) = ⊥
+Accepted _ = Unit {0}
+
 -- how many numbers the call moved
-abbrev pub moved : Answer → ℕ
-moved (Taken n) = n
-moved _ = 0
+abbrev pub count_taken : Told → ℕ
+count_taken (taken n) = n
+count_taken _ = 0

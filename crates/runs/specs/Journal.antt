@@ -1,5 +1,5 @@
 -- Journals of calls, made on a new run with one list of labels.
-use Rattle.std.specs.Prelude.{◌≡◌, ℕ, ◌+◌, ◌<◌, ◌≤◌, min, Bool, ◌↔◌, List, [], ◌∷◌, ◌++◌, length, take, drop, map, Some}
+use Rattle.std.specs.Prelude.{◌≡◌, ℕ, ◌+◌, ◌<◌, ◌≤◌, min, Bool, ◌↔◌, List, [], ◌∷◌, ◌++◌, length, take, drop, map, Some, None, Option}
 use Rattle.std.specs.List.{slice_get}
 use Rattle.rules.specs.declared.node.RuleNode.{RuleNode}
 use Rattle.rules.specs.declared.rule.Rule.{Rule}
@@ -9,8 +9,6 @@ use Rattle.runs.specs.declared.call.Call.{Call}
 use Rattle.runs.specs.declared.call.Call.TheVariants.{Take}
 use Rattle.runs.specs.declared.call.Answer.{Answer}
 use Rattle.runs.specs.declared.run.Run.{Run}
-use Rattle.runs.specs.declared.journal.Shortage.{Shortage}
-use Rattle.runs.specs.declared.journal.Shortage.TheVariants.{Answers, Numbers}
 use Rattle.runs.specs.Bits.{Has}
 use Rattle.runs.specs.Answers.{Told, told}
 use Rattle.runs.specs.Model.{Model, empty, Plays, Selected}
@@ -48,46 +46,44 @@ module _ {L : Type 0} (same : L → L → Bool) (rule : Rule) (labels : List L) 
     pub stands : Stands (rule_nodes rule) run.state tree
     pub carried : Carried (rule_nodes rule) meets m tree
 
-  -- After k of the calls: what the reference model says of them, the numbers that were handed out by then, and that these and
-  -- the waiting ones are what is selected.
-  pub record After (calls : List (Call L)) (ts : List Told) (hs : List ℕ) (k : ℕ) : Type 0 where
+  -- What the reference model, fed the calls alone, says of the first k of them. The answers are the first k of ts, the numbers
+  -- handed out by then are followed by those that were handed out later, and those numbers and the waiting ones are what is
+  -- selected. The run after k calls is the one that a replay of these k hands back.
+  pub record After (calls : List (Call L)) (ts : List Told) (m : Model L) (k : ℕ) : Type 0 where
     pub state : Model L
     pub plays : Plays (rule_nodes rule) meets empty (take k calls) (take k ts) state
     pub later : List ℕ
-    pub handed : hs ≡ state.handed ++ later
+    pub handed : m.handed ≡ state.handed ++ later
     pub selected : Selected (rule_nodes rule) meets state
 
-  -- The reference model, fed the calls alone, comes to the state m with these answers, and to no other with others. hs were
-  -- handed out.
-  pub record Recorded (calls : List (Call L)) (ts : List Told) (hs : List ℕ) (m : Model L) : Type 0 where
+  -- The reference model comes to the state m with these answers, and to no other with others.
+  pub record Recorded (calls : List (Call L)) (ts : List Told) (m : Model L) : Type 0 where
     pub plays : Plays (rule_nodes rule) meets empty calls ts m
     pub only : (ts' : List Told) (m' : Model L) → Plays (rule_nodes rule) meets empty calls ts' m' → (ts' ≡ ts) × (m' ≡ m)
-    pub handed : hs ≡ m.handed
-    pub after : (k : ℕ) → k ≤ length calls → After calls ts hs k
+    pub after : (k : ℕ) → k ≤ length calls → After calls ts m k
 
-  -- all calls were made, and each has its answer
+  -- All calls were made, and each has its answer. The answers and the numbers handed out stand at the front of the two lists.
   pub record Replayed (calls : List (Call L)) (answers answers' : List Answer) (numbers numbers' : List ℕ)
-      (run : Run) (handed : ℕ) : Type 0 where
+      (run : Run) (count : ℕ) : Type 0 where
     pub given : List Answer
-    pub moved : List ℕ
     pub state : Model L
     pub all : length given ≡ length calls
-    pub recorded : Recorded calls (map told given) moved state
+    pub recorded : Recorded calls (map told given) state
     pub stands : StandsAt run state
-    pub count : handed ≡ length moved
+    pub handed : count ≡ length state.handed
     pub given_first : Filled answers given answers'
-    pub moved_first : Filled numbers moved numbers'
+    pub handed_first : Filled numbers state.handed numbers'
 
   -- The list for the answers is too short, and nothing was done; or call k is a taking whose numbers do not fit behind those
   -- handed out before it, and the calls before it were made.
-  pub data Unfinished (calls : List (Call L)) (answers answers' : List Answer) (numbers numbers' : List ℕ) : Shortage → Type 0 where
+  pub data Unfinished (calls : List (Call L)) (answers answers' : List Answer) (numbers numbers' : List ℕ) : Option (ℕ × ℕ) → Type 0 where
     few_answers : length answers < length calls → answers' ≡ answers → numbers' ≡ numbers
-        → Unfinished calls answers answers' numbers numbers' Answers
-    few_numbers : (k n : ℕ) (given : List Answer) (moved : List ℕ) (state : Model L)
+        → Unfinished calls answers answers' numbers numbers' None
+    few_numbers : (k n : ℕ) (given : List Answer) (state : Model L)
         → length calls ≤ length answers
         → slice_get calls k ≡ Some (Take n)
         → length given ≡ k
-        → Recorded (take k calls) (map told given) moved state
-        → length numbers < length moved + min (length state.waiting) n
-        → Filled answers given answers' → Filled numbers moved numbers'
-        → Unfinished calls answers answers' numbers numbers' (Numbers k (length moved))
+        → Recorded (take k calls) (map told given) state
+        → length numbers < length state.handed + min (length state.waiting) n
+        → Filled answers given answers' → Filled numbers state.handed numbers'
+        → Unfinished calls answers answers' numbers numbers' (Some (k, length state.handed))

@@ -6,7 +6,7 @@ use Rattle.runs.specs.declared.call.Call.{Call}
 use Rattle.runs.specs.declared.call.Call.TheVariants.{Take}
 use Rattle.runs.specs.declared.call.Answer.{Answer}
 use Rattle.runs.specs.declared.run.Run.{Run}
-use Rattle.runs.specs.Answers.{told, moved}
+use Rattle.runs.specs.Answers.{told, count_taken}
 use Rattle.runs.specs.Model.{Model, Does}
 use Rattle.runs.specs.Journal.{Filled, meets, StandsAt}
 
@@ -18,7 +18,7 @@ module _ {L : Type 0} (same : L → L → Bool) (rule : Rule) (labels : List L) 
     pub stands : StandsAt same rule labels run state
     pub hands : List ℕ
     pub handed : state.handed ≡ m.handed ++ hands
-    pub count : moved a ≡ length hands
+    pub count : count_taken (told a) ≡ length hands
     pub filled : Filled numbers hands numbers'
 
   -- a taking that moves more numbers than the list has entries, and is not made

@@ -1,6 +1,6 @@
 //! Journals of calls, made on a new run.
-ghost use Rattle.std.specs.Prelude.{◌≡◌, ℕ, ◌≤◌, length, MatchOption, MatchResult, Some};
-ghost use Rattle.runs.specs.Shortages.{shortage_text};
+ghost use Rattle.std.specs.Prelude.{◌≤◌, length, MatchOption, MatchResult, Some};
+ghost use Rattle.runs.specs.Shortages.{stopped_at, shortage_text};
 ghost use Rattle.runs.specs.Model.{Model, empty};
 ghost use Rattle.runs.specs.Calls.{StandsFor};
 ghost use Rattle.runs.specs.Journal.{StandsAt, Replayed, Unfinished};
@@ -60,9 +60,9 @@ impl<'r> Run<'r> {
             (λ a. Made L.eq self.old.rule.now labels.now m call.now a out.old out.new self.new) }
     {
         match call {
-            Call::Open(label) => Some(Answer::from(self.open(labels, label))),
-            Call::Close => Some(Answer::from(self.close())),
-            Call::Drop => Some(Answer::from(self.drop_open())),
+            Call::Open(label) => Some(Answer::of_opening(self.open(labels, label))),
+            Call::Close => Some(Answer::of_closing(self.close())),
+            Call::Drop => Some(Answer::of_dropping(self.drop_open())),
             Call::Take(size) => {
                 let count = (*size).min(self.waiting_count());
                 if count > out.len() {
@@ -86,7 +86,7 @@ impl<'r> Run<'r> {
         requires room { length calls.now ≤ length answers.old }
         ensures { MatchResult result
             (Replayed L.eq self.old.rule.now labels.now calls.now answers.old answers.new numbers.old numbers.new self.new)
-            (Unfinished L.eq self.old.rule.now labels.now calls.now answers.old answers.new numbers.old numbers.new) }
+            (λ f. Unfinished L.eq self.old.rule.now labels.now calls.now answers.old answers.new numbers.old numbers.new (stopped_at f)) }
     {
         let mut handed = 0;
         for (i, call) in calls.iter().enumerate() {
@@ -112,7 +112,7 @@ pub fn replay<'r, L: LabelKind>(
 ) -> Result<Outcome<'r>, Shortage>
     ensures { MatchResult result
         (λ r. Replayed L.eq rule.now labels.now calls.now answers.old answers.new numbers.old numbers.new r.run r.handed)
-        (Unfinished L.eq rule.now labels.now calls.now answers.old answers.new numbers.old numbers.new) }
+        (λ f. Unfinished L.eq rule.now labels.now calls.now answers.old answers.new numbers.old numbers.new (stopped_at f)) }
 {
     if answers.len() < calls.len() {
         return Err(Shortage::Answers);
