@@ -11,7 +11,7 @@ use Rattle.rules.specs.declared.syntax.ParsedNode.{ParsedNode}
 use Rattle.rules.specs.declared.node.RuleNode.{RuleNode}
 use Rattle.rules.specs.Grammar.{Test, name, star, Text}
 use Rattle.rules.specs.Rule.{blank, parent_of, edge_of}
-use Rattle.rules.specs.Embedding.{Below, direct, Across, Embedding, Nodes, ChildIn, MeetsIn, OccursIn, ParentsFirst}
+use Rattle.rules.specs.Embedding.{Below, direct, Across, Embedding, Nodes, ChildIn, Meets, MeetsIn, OccursIn, ParentsFirst}
 use Rattle.rules.specs.XPath.{LocationPath, Context, ChildOf, Selected}
 use Rattle.rules.specs.Expression.{token_bytes, ParentIn, CalledIn, expression, TextStandsFor, stands_for, SelectsAlike, PlainReadings}
 use Rattle.rules.specs.RuleNodes.{is_star, plain, plain_nodes}
@@ -65,14 +65,14 @@ node_across nodes edge.Descendant u v b = let r = below_last b in (Some r.0, r.2
 
 module _ {L : Type 0} (same : L → L → Bool) (spelled : L → List ℕ) (alike : List ℕ → List ℕ → Bool) (tied : (a b : L) → same a b ≡ alike (spelled a) (spelled b))
     (bs : List ℕ) (ns : List ParsedNode) (before labels : List L) (names : NamesIn spelled bs ns before labels) (nodes : Nodes L) (φ : ℕ → ℕ) (v : ℕ) where
-  module _ (m : Embedding (plain_nodes ns) (ChildIn nodes) (MeetsIn same (plain_nodes ns) labels nodes) v φ) where
+  module _ (m : Embedding (plain_nodes ns) (ChildIn nodes) (MeetsIn (Meets same (plain_nodes ns) labels) nodes) v φ) where
     within : (k : ℕ) (n : ParsedNode) → slice_get ns k ≡ Some n → k < length (plain_nodes ns)
     within k n h = let l = slice_get_within ns k n h in omega (arith, length-map ns plain)
 
     meets : (k : ℕ) (n : ParsedNode) → slice_get ns k ≡ Some n → Test n.test → MeetsNode bs (ParentIn nodes) (CalledIn spelled alike nodes) n (φ k)
     meets k n h t = by_test t (m.tests k (within k n h))
       where
-        by_label : n.test.kind ≡ Name → MeetsIn same (plain_nodes ns) labels nodes k (φ k) → MeetsNode bs (ParentIn nodes) (CalledIn spelled alike nodes) n (φ k)
+        by_label : n.test.kind ≡ Name → MeetsIn (Meets same (plain_nodes ns) labels) nodes k (φ k) → MeetsNode bs (ParentIn nodes) (CalledIn spelled alike nodes) n (φ k)
         by_label e (p, l, here, inl any) =
             let r : is_star n.test.kind ≡ true = sym (ap (λ (z : RuleNode). z.any) (rule_at ns k n h)) ∙ any in
             inl (star_true n.test t r)
@@ -82,7 +82,7 @@ module _ {L : Type 0} (same : L → L → Bool) (spelled : L → List ℕ) (alik
             let z : y.0 ≡ w = cc in
             inr (e, (p, l, here, ap (alike (spelled l)) (sym y.2 ∙ ap spelled z) ∙ sym (tied l w) ∙ equal))
 
-        by_test : Test n.test → MeetsIn same (plain_nodes ns) labels nodes k (φ k) → MeetsNode bs (ParentIn nodes) (CalledIn spelled alike nodes) n (φ k)
+        by_test : Test n.test → MeetsIn (Meets same (plain_nodes ns) labels) nodes k (φ k) → MeetsNode bs (ParentIn nodes) (CalledIn spelled alike nodes) n (φ k)
         by_test (star e) r = inl e
         by_test (name e) r = by_label e r
 
@@ -91,7 +91,7 @@ module _ {L : Type 0} (same : L → L → Bool) (spelled : L → List ℕ) (alik
         subst (λ (z : RuleNode). Across (ChildIn nodes) z.edge (φ z.parent) (φ k)) (rule_at ns k n h)
         (m.edges k pos (within k n h))
 
-  embeds : v < length nodes → Mapping bs (ParentIn nodes) (CalledIn spelled alike nodes) ns φ → φ 0 ≡ v → Embedding (plain_nodes ns) (ChildIn nodes) (MeetsIn same (plain_nodes ns) labels nodes) v φ
+  embeds : v < length nodes → Mapping bs (ParentIn nodes) (CalledIn spelled alike nodes) ns φ → φ 0 ≡ v → Embedding (plain_nodes ns) (ChildIn nodes) (MeetsIn (Meets same (plain_nodes ns) labels) nodes) v φ
   embeds inside l r = record { root = r; tests = tests; edges = edge_at }
     where
       node_at : (k : ℕ) → k < length (plain_nodes ns) → (n : ParsedNode) × (slice_get ns k ≡ Some n)
@@ -106,7 +106,7 @@ module _ {L : Type 0} (same : L → L → Bool) (spelled : L → List ℕ) (alik
       image zero h = let s = some_at nodes v inside in (s.0.0, s.0.1, ap (slice_get nodes) r ∙ s.1)
       image (suc k) h = node_across nodes _ _ _ (edge_at (suc k) (omega arith) h)
 
-      tests : (k : ℕ) → k < length (plain_nodes ns) → MeetsIn same (plain_nodes ns) labels nodes k (φ k)
+      tests : (k : ℕ) → k < length (plain_nodes ns) → MeetsIn (Meets same (plain_nodes ns) labels) nodes k (φ k)
       tests k h =
           let n = node_at k h in
           let i = image k h in

@@ -27,7 +27,7 @@ pub record Embedding (rule : List RuleNode) (Child Meets : ℕ → ℕ → Type 
 abbrev pub Occurs : List RuleNode → (ℕ → ℕ → Type 0) → (ℕ → ℕ → Type 0) → ℕ → Type 0
 Occurs rule Child Meets v = (φ : ℕ → ℕ) × Embedding rule Child Meets v φ
 
--- The nodes of a listing by their numbers: each node's parent, which a root lacks, and its label.
+-- The nodes of a listing by their numbers: each node's parent, which a root lacks, and its label, or what it carries in its place.
 abbrev pub Nodes : Type 0 → Type 0
 Nodes L = List (Option ℕ × L)
 
@@ -40,11 +40,11 @@ abbrev pub Meets : {L : Type 0} → (L → L → Bool) → List RuleNode → Lis
 Meets {L} same rule labels l x = (any_of rule x ≡ true) ⊎ ((w : L) × (slice_get labels x ≡ Some w) × (same l w ≡ true))
 
 -- v is a node, and its label meets the test of rule node x
-abbrev pub MeetsIn : {L : Type 0} → (L → L → Bool) → List RuleNode → List L → Nodes L → ℕ → ℕ → Type 0
-MeetsIn {L} same rule labels nodes x v = (p : Option ℕ) × (l : L) × (slice_get nodes v ≡ Some (p, l)) × Meets same rule labels l x
+abbrev pub MeetsIn : {L : Type 0} → (L → ℕ → Type 0) → Nodes L → ℕ → ℕ → Type 0
+MeetsIn {L} meets nodes x v = (p : Option ℕ) × (l : L) × (slice_get nodes v ≡ Some (p, l)) × meets l x
 
 abbrev pub OccursIn : {L : Type 0} → (L → L → Bool) → List RuleNode → List L → Nodes L → ℕ → Type 0
-OccursIn same rule labels nodes v = Occurs rule (ChildIn nodes) (MeetsIn same rule labels nodes) v
+OccursIn same rule labels nodes v = Occurs rule (ChildIn nodes) (MeetsIn (Meets same rule labels) nodes) v
 
 -- a parent is numbered before its children
 abbrev pub ParentsFirst : {L : Type 0} → Nodes L → Type 0

@@ -8,7 +8,7 @@ use Rattle.rules.specs.Rule.{parent_of, edge_of}
 use Rattle.rules.specs.Embedding.{Nodes, Below, direct, deeper, Across, Occurs}
 use Rattle.runs.specs.declared.call.Call.{Call}
 use Rattle.runs.specs.declared.call.Call.TheVariants.{Open, Close, Drop}
-use Rattle.runs.specs.Bits.{Has}
+use Rattle.runs.specs.Bits.{Has, SetOf}
 use Rattle.runs.specs.Answers.{Told}
 use Rattle.runs.specs.Picks.{In}
 use Rattle.runs.specs.Model.{Model, empty, innermost, KeptChild, MeetsAt, OccursAt, opening, closing, dropping, taking, Does}
@@ -39,7 +39,7 @@ module _ (rule : List RuleNode) (C C' M M' : ℕ → ℕ → Type 0)
 module _ {L : Type 0} (rule : List RuleNode) (meets : L → ℕ → Type 0) where
   -- node v of the labels' list, and of the sets'
   abbrev Same : L → ℕ → Type 0
-  Same l s = (x : ℕ) → Has s x ↔ ((x < length rule) × meets l x)
+  Same l s = SetOf rule (meets l) s
 
   set_of : (ns : Nodes L) (ss : Nodes ℕ) → SetsOf rule meets ns ss → (v : ℕ) (p : Option ℕ) (l : L)
       → slice_get ns v ≡ Some (p, l) → (s : ℕ) × (slice_get ss v ≡ Some (p, s)) × Same l s

@@ -1,5 +1,5 @@
 -- One call of a journal, on the run and on the reference model with labels.
-use Rattle.std.proofs.Common.{◌≡◌, ℕ, ◌<◌, ◌≤◌, ◌↔◌, min, Bool, List, [], ◌++◌, length, take, drop, Ok, Err, Result, sym, refl, ap, ap₂, ◌∙◌, subst, append-nil, arith}
+use Rattle.std.proofs.Common.{◌≡◌, ℕ, ◌≤◌, min, Bool, List, [], ◌++◌, length, take, drop, Ok, Err, Result, sym, refl, ap, ap₂, ◌∙◌, subst, append-nil, arith}
 use Rattle.std.proofs.lemmas.List.{length-take-le, drop_all}
 use Rattle.rules.specs.declared.node.RuleNode.{RuleNode}
 use Rattle.rules.specs.declared.rule.Rule.{Rule}
@@ -10,7 +10,8 @@ use Rattle.runs.specs.declared.call.Call.{Call}
 use Rattle.runs.specs.declared.call.Call.TheVariants.{Open, Close, Drop, Take}
 use Rattle.runs.specs.declared.call.Answer.{Answer}
 use Rattle.runs.specs.declared.call.Answer.TheVariants.{Opened, Closed, Dropped, Taken, Refused}
-use Rattle.runs.specs.Bits.{Has}
+use Rattle.rules.specs.Embedding.{Meets}
+use Rattle.runs.specs.Bits.{Has, SetOf}
 use Rattle.runs.specs.Refusals.{number}
 use Rattle.runs.specs.Answers.{Told, told, told_by, count_taken, opened, closed, dropped, taken, refused}
 use Rattle.runs.specs.Model.{Model, Does, taking}
@@ -121,13 +122,13 @@ module _ {L : Type 0} (same : L → L → Bool) (rule : Rule) (labels : List L) 
   drop_hands m m' r (Does.drops v vs e) = refl
 
   module _ (m : Model L) (run run' : Run) (at : StandsAt same rule labels run m) (c : Call L) (a : Answer) (out : List ℕ) where
-    pub made_open : (l : L) (r : Result ℕ Refusal) → c ≡ Open l → Opening run (tests l) (told_by opened r) run' → told a ≡ told_by opened r
+    pub made_open : (l : L) (r : Result ℕ Refusal) → c ≡ Open l → Opening same run labels l (told_by opened r) run' → told a ≡ told_by opened r
         → Made same rule labels m c a out out run'
     made_open l r is o e =
         let set = o.moves in
         let P : Call L → Type 0 = λ k. Made same rule labels m k a out out run' in
-        let b : (x : ℕ) → Has set.set x ↔ ((x < length nodes) × tests l x) =
-        let Q : Rule → Type 0 = λ q. (x : ℕ) → Has set.set x ↔ ((x < length (rule_nodes q)) × tests l x) in subst Q at.rule_is set.members in
+        let b : SetOf nodes (tests l) set.set =
+        let Q : Rule → Type 0 = λ q. SetOf (rule_nodes q) (Meets same (rule_nodes q) labels l) set.set in subst Q at.rule_is set.members in
         subst P (sym is)
         (unmoved m run run' at o.rule (Open l) a out (Open set.set) (told_by opened r) set.moves
         (λ t' d. lift_open nodes tests m at.tree at.carried l set.set b d) (λ m' d. open_hands m l m' (told_by opened r) d) e (untaken_open r))

@@ -1,5 +1,5 @@
 -- A run as a value, and its calls as calls of the reference model.
-use Rattle.std.proofs.Common.{◌≡◌, ℕ, ◌<◌, ◌↔◌, min, Bool, List, [], ◌++◌, length, take, drop, Some, Ok, Err, OnErr, Result, refl, sym, ap, ◌∙◌, subst, arith}
+use Rattle.std.proofs.Common.{◌≡◌, ℕ, min, Bool, List, [], ◌++◌, length, take, drop, Some, Ok, Err, OnErr, Result, refl, sym, ap, ◌∙◌, subst, arith}
 use mathlib.Core.HLevel.{is_prop→PathP}
 use mathlib.Core.Logic.{∥∥₁_prop, ∥∥₁_map}
 use Rattle.std.proofs.lemmas.Option.{slice_get_within}
@@ -10,7 +10,7 @@ use Rattle.runs.specs.declared.refusal.Refusal.{Refusal}
 use Rattle.runs.specs.declared.levels.Levels.{Levels}
 use Rattle.runs.specs.declared.run.Run.{Run}
 use Rattle.runs.specs.declared.call.Call.TheVariants.{Close, Drop}
-use Rattle.runs.specs.Bits.{Has}
+use Rattle.runs.specs.Bits.{SetOf}
 use Rattle.runs.specs.Words.{Words, words, no_words, stacked}
 use Rattle.runs.specs.LevelCalls.{Opens, Closes, Drops, Takes}
 use Rattle.runs.specs.Answers.{told_by, opened, closed, dropped}
@@ -66,7 +66,7 @@ module _ (rule : Rule) (s : Levels) where
   waiting_tells m h = sym (length_queued s.ring s.head s.waiting) ∙ ap length h.waiting
 
   module _ (s' : Levels) where
-    pub open_moves : (meets : ℕ → Type 0) (w : ℕ) (r : Result ℕ Refusal) → ((x : ℕ) → Has w x ↔ ((x < length nodes) × meets x)) → Opens w (words s) r (words s')
+    pub open_moves : (meets : ℕ → Type 0) (w : ℕ) (r : Result ℕ Refusal) → SetOf nodes meets w → Opens w (words s) r (words s')
         → MovesOpen nodes s meets (told_by opened r) s'
     open_moves meets w r b k = record { set = w; members = b; moves = record { model = λ m h. open_sim nodes m w h k } }
 

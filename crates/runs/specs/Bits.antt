@@ -1,5 +1,6 @@
 -- The bits of a word as a set of numbers.
-use Rattle.std.specs.Prelude.{◌≡◌, ℕ, ◌/◌, ◌%◌, ◌^◌}
+use Rattle.std.specs.Prelude.{◌≡◌, ℕ, ◌<◌, ◌/◌, ◌%◌, ◌^◌, ◌↔◌, List, length}
+use Rattle.rules.specs.declared.node.RuleNode.{RuleNode}
 
 -- bit x of w, 0 or 1
 unfoldable pub bit : ℕ → ℕ → ℕ
@@ -8,3 +9,7 @@ bit w x = w / 2 ^ x % 2
 -- x is in the set that w stands for
 abbrev pub Has : ℕ → ℕ → Type 0
 Has w x = bit w x ≡ 1
+
+-- w has the rule nodes whose tests are met
+abbrev pub SetOf : List RuleNode → (ℕ → Type 0) → ℕ → Type 0
+SetOf rule meets w = (x : ℕ) → Has w x ↔ ((x < length rule) × meets x)

@@ -1,5 +1,5 @@
 -- Journals of calls, made on a new run with one list of labels.
-use Rattle.std.specs.Prelude.{◌≡◌, ℕ, ◌+◌, ◌<◌, ◌≤◌, min, Bool, ◌↔◌, List, [], ◌∷◌, ◌++◌, length, take, drop, map, Some, None, Option}
+use Rattle.std.specs.Prelude.{◌≡◌, ℕ, ◌+◌, ◌<◌, ◌≤◌, min, Bool, List, [], ◌∷◌, ◌++◌, length, take, drop, map, Some, None, Option}
 use Rattle.std.specs.List.{slice_get}
 use Rattle.rules.specs.declared.node.RuleNode.{RuleNode}
 use Rattle.rules.specs.declared.rule.Rule.{Rule}
@@ -9,7 +9,7 @@ use Rattle.runs.specs.declared.call.Call.{Call}
 use Rattle.runs.specs.declared.call.Call.TheVariants.{Take}
 use Rattle.runs.specs.declared.call.Answer.{Answer}
 use Rattle.runs.specs.declared.run.Run.{Run}
-use Rattle.runs.specs.Bits.{Has}
+use Rattle.runs.specs.Bits.{SetOf}
 use Rattle.runs.specs.Answers.{Told, told}
 use Rattle.runs.specs.Model.{Model, empty, Plays, Selected}
 use Rattle.runs.specs.Stands.{SetModel, Stands}
@@ -19,7 +19,7 @@ abbrev pub SetsOf : {L : Type 0} → List RuleNode → (L → ℕ → Type 0) �
 SetsOf rule meets [] [] = Unit {0}
 SetsOf rule meets [] (s ∷ ss) = ⊥
 SetsOf rule meets (n ∷ ns) [] = ⊥
-SetsOf rule meets (n ∷ ns) (s ∷ ss) = (s.0 ≡ n.0) × ((x : ℕ) → Has s.1 x ↔ ((x < length rule) × meets n.1 x)) × SetsOf rule meets ns ss
+SetsOf rule meets (n ∷ ns) (s ∷ ss) = (s.0 ≡ n.0) × SetOf rule (meets n.1) s.1 × SetsOf rule meets ns ss
 
 -- the state t is the state m with sets in place of labels
 pub record Carried {L : Type 0} (rule : List RuleNode) (meets : L → ℕ → Type 0) (m : Model L) (t : SetModel) : Type 0 where

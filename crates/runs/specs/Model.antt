@@ -1,8 +1,7 @@
 -- The reference model of a run: what calls do to a tree of nodes, and which nodes they select.
 use Rattle.std.specs.Prelude.{◌≡◌, ℕ, ◌<◌, min, true, false, List, [], ◌∷◌, ◌++◌, length, take, drop, Some, None, Option}
-use Rattle.std.specs.List.{slice_get}
 use Rattle.rules.specs.declared.node.RuleNode.{RuleNode}
-use Rattle.rules.specs.Embedding.{Nodes, ChildIn, Occurs}
+use Rattle.rules.specs.Embedding.{Nodes, ChildIn, MeetsIn, Occurs}
 use Rattle.runs.specs.declared.call.Call.{Call}
 use Rattle.runs.specs.declared.call.Call.TheVariants.{Open, Close, Drop, Take}
 use Rattle.runs.specs.Limits.{depth_limit, waiting_limit, openings_limit}
@@ -10,8 +9,9 @@ use Rattle.runs.specs.Picks.{In, Once, Picks}
 use Rattle.runs.specs.Answers.{Told, opened, closed, dropped, taken, refused}
 
 -- The nodes in order of opening, each with what it carries: its label, or at a run's own calls the set of rule nodes whose
--- tests its label meets. path: the open nodes, innermost first; closed: the closed nodes in closing order; waiting: the
--- waiting numbers, oldest first; handed: the numbers that takings moved, in the order moved.
+-- tests its label meets. path: the open nodes, innermost first; dropped: the nodes given up, the last one first; closed: the
+-- closed nodes in closing order; waiting: the waiting numbers, oldest first; handed: the numbers that takings moved, in the
+-- order moved.
 pub record Model (A : Type 0) : Type 0 where
   pub nodes : Nodes A
   pub path : List ℕ
@@ -31,11 +31,11 @@ innermost (v ∷ vs) = Some v
 abbrev pub KeptChild : {A : Type 0} → Model A → ℕ → ℕ → Type 0
 KeptChild m u v = ChildIn m.nodes u v × (In v m.dropped → ⊥)
 
--- v is a node, and what it carries meets the test of rule node x
 abbrev pub MeetsAt : {A : Type 0} → (A → ℕ → Type 0) → Model A → ℕ → ℕ → Type 0
-MeetsAt {A} meets m x v = (p : Option ℕ) × (a : A) × (slice_get m.nodes v ≡ Some (p, a)) × meets a x
+MeetsAt meets m = MeetsIn meets m.nodes
 
--- the rule occurs at v, in the tree of v and the nodes below it that were not dropped
+-- The rule occurs at v, in the tree of v and the nodes below it. What was dropped is no child of a node, so neither it nor what
+-- lies below it is in that tree.
 abbrev pub OccursAt : {A : Type 0} → List RuleNode → (A → ℕ → Type 0) → Model A → ℕ → Type 0
 OccursAt rule meets m v = Occurs rule (KeptChild m) (MeetsAt meets m) v
 

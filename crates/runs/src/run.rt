@@ -1,6 +1,5 @@
 //! The run: its calls, and its limits.
 ghost use Rattle.std.specs.Prelude.{◌≡◌, length, OnErr};
-ghost use Rattle.rules.specs.Embedding.{Meets};
 ghost use Rattle.rules.specs.RuleNodes.{rule_nodes};
 ghost use Rattle.runs.specs.Stands.{SetModel, Stands};
 
@@ -49,7 +48,7 @@ impl<'r> Run<'r> {
     /// of the rule nodes.
     #[tactic(auto, using(crate::proofs::RunLaws::open_moves, crate::proofs::RunLaws::open_real, crate::proofs::RunLaws::run_kept))]
     pub fn open<L: LabelKind>(&mut self, labels: &[L], label: &L) -> Result<u32, Refusal>
-        ensures step { Opening self.old (Meets L.eq (rule_nodes self.old.rule.now) labels.now label.now) (told_by opened result) self.new }
+        ensures step { Opening L.eq self.old labels.now label.now (told_by opened result) self.new }
         ensures refused { OnErr result (self.new ≡ self.old) }
     {
         let met = nodes_met(self.rule, labels, label);
