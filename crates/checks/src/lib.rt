@@ -2,13 +2,15 @@
 #![tactic(auto)]
 
 #[cfg(test)]
+mod calls;
+#[cfg(test)]
+mod journals;
+#[cfg(test)]
 mod listings;
 #[cfg(test)]
 mod names;
 #[cfg(test)]
 mod records;
-#[cfg(test)]
-mod runs;
 #[cfg(test)]
 mod texts;
 #[cfg(test)]

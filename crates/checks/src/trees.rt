@@ -55,39 +55,49 @@ fn calls_of(tree: &[u8]) -> Calls {
     calls
 }
 
-// Replays the calls with the rule of the text, then takes what waits; the numbers stand in front, the others are `NONE`.
-fn numbers(text: &[u8], calls: &[Call<Name>]) -> [u32; 4] {
+// Replays the calls with the rule of the text, then takes what waits; the numbers stand in front, the others are `NONE`. None
+// where the text is refused or the calls are not made to the end.
+fn numbers(text: &[u8], calls: &[Call<Name>]) -> Option<[u32; 4]> {
     let mut rule = Rule::new();
     let mut names = [Name::empty(); NODE_LIMIT];
     let mut answers = [Answer::Dropped; CALLS];
     let mut numbers = [NONE; 4];
-    if rule.read_text(text, &mut names).is_ok() {
-        if let Ok(mut outcome) = replay(&rule, &names, calls, &mut answers, &mut []) {
-            outcome.run.take(&mut numbers);
-        }
-    }
-    numbers
+    rule.read_text(text, &mut names).ok()?;
+    let Ok(mut outcome) = replay(&rule, &names, calls, &mut answers, &mut []) else {
+        return None;
+    };
+    outcome.run.take(&mut numbers);
+    Some(numbers)
 }
 
-fn selected(text: &[u8], tree: &[u8]) -> [u32; 4] {
+fn selected(text: &[u8], tree: &[u8]) -> Option<[u32; 4]> {
     numbers(text, calls_of(tree).as_slice())
 }
 
 #[test]
 fn trees(rt: HostRuntime) {
-    assert_eq!(rt; selected(b"//a[a]", b"a(a(a))"), [1, 0, NONE, NONE]);
-    assert_eq!(rt; selected(b"//a[b][b]", b"a(b)"), [0, NONE, NONE, NONE]);
-    assert_eq!(rt; selected(b"//a[b[c][d]]", b"a(b(c) b(d))"), [NONE; 4]);
+    assert_eq!(rt; selected(b"//a[a]", b"a(a(a))"), Some([1, 0, NONE, NONE]));
+    assert_eq!(rt;
+        selected(b"//a[b][b]", b"a(b)"),
+        Some([0, NONE, NONE, NONE])
+    );
+    assert_eq!(rt; selected(b"//a[b[c][d]]", b"a(b(c) b(d))"), Some([NONE; 4]));
     assert_eq!(rt;
         selected(b"//a[b/c][b/d]", b"a(b(c) b(d))"),
-        [0, NONE, NONE, NONE]
+        Some([0, NONE, NONE, NONE])
     );
-    assert_eq!(rt; selected(b"//a[c]", b"a(b(c))"), [NONE; 4]);
-    assert_eq!(rt; selected(b"//a[.//c]", b"a(b(c))"), [0, NONE, NONE, NONE]);
-    assert_eq!(rt; selected(b"//a[.//a]", b"a"), [NONE; 4]);
-    assert_eq!(rt; selected(b"//*[*]", b"a(b c(d))"), [2, 0, NONE, NONE]);
-    assert_eq!(rt; selected(b"//*[.//d]", b"a(b c(d))"), [2, 0, NONE, NONE]);
-    assert_eq!(rt; selected(b"//*", b"a(b c) d"), [1, 2, 0, 3]);
+    assert_eq!(rt; selected(b"//a[c]", b"a(b(c))"), Some([NONE; 4]));
+    assert_eq!(rt;
+        selected(b"//a[.//c]", b"a(b(c))"),
+        Some([0, NONE, NONE, NONE])
+    );
+    assert_eq!(rt; selected(b"//a[.//a]", b"a"), Some([NONE; 4]));
+    assert_eq!(rt; selected(b"//*[*]", b"a(b c(d))"), Some([2, 0, NONE, NONE]));
+    assert_eq!(rt;
+        selected(b"//*[.//d]", b"a(b c(d))"),
+        Some([2, 0, NONE, NONE])
+    );
+    assert_eq!(rt; selected(b"//*", b"a(b c) d"), Some([1, 2, 0, 3]));
 }
 
 // A dropped node is not in the tree; what was closed below it before keeps its number.
@@ -96,7 +106,7 @@ fn dropped_nodes(rt: HostRuntime) {
     let a = name(b'a');
     let b = name(b'b');
     let calls = [Call::Open(a), Call::Open(b), Call::Drop, Call::Close];
-    assert_eq!(rt; numbers(b"//a[b]", &calls), [NONE; 4]);
+    assert_eq!(rt; numbers(b"//a[b]", &calls), Some([NONE; 4]));
     let calls = [
         Call::Open(a),
         Call::Open(a),
@@ -106,6 +116,9 @@ fn dropped_nodes(rt: HostRuntime) {
         Call::Drop,
         Call::Close,
     ];
-    assert_eq!(rt; numbers(b"//a[b]", &calls), [1, NONE, NONE, NONE]);
-    assert_eq!(rt; numbers(b"//a[.//b]", &calls[..5]), [1, NONE, NONE, NONE]);
+    assert_eq!(rt; numbers(b"//a[b]", &calls), Some([1, NONE, NONE, NONE]));
+    assert_eq!(rt;
+        numbers(b"//a[.//b]", &calls[..5]),
+        Some([1, NONE, NONE, NONE])
+    );
 }

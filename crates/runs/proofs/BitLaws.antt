@@ -141,9 +141,6 @@ ones_shr w n h =
     ap (λ (k : ℕ). (2 ^ k - 1) / 2 ^ (w - n)) e ∙ ap (λ (k : ℕ). k / 2 ^ (w - n)) (ones_split n (w - n))
     ∙ digits_div (2 ^ n - 1) (ones_lt (w - n))
 
-pub iff_comp : {P Q R : Type 0} → P ↔ Q → Q ↔ R → P ↔ R
-iff_comp a b = (λ p. b.0 (a.0 p), λ r. a.1 (b.1 r))
-
 -- what the operations of a set tell, where w is the word of the set v
 pub contains_told : (w v n : ℕ) → w ≡ v → Decides (eqb (bit_and (w / 2 ^ n) 1) 1) (Has v n)
 contains_told w v n e = rw (low_bit w n, e) (Decides-eqb (bit v n) 1)

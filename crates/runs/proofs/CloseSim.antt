@@ -3,6 +3,7 @@ use Rattle.std.proofs.Common.{◌≡◌, ℕ, ◌<◌, Bool, ◌↔◌, List, []
 use lib.Bits.{bit_or}
 use Rattle.std.specs.List.{slice_get}
 use Rattle.std.proofs.lemmas.Bool.{cases_eq}
+use Rattle.std.proofs.lemmas.Option.{same_Some}
 use Rattle.rules.specs.declared.node.RuleNode.{RuleNode}
 use Rattle.rules.specs.Rule.{Ordered}
 use Rattle.rules.specs.Embedding.{Below, direct, deeper, ParentsFirst}
@@ -19,7 +20,7 @@ use Rattle.runs.specs.Stands.{SetModel, FitsAt, ClosedChild, FitsWithin, LevelSt
 use Rattle.runs.proofs.BitLaws.{has_or}
 use Rattle.runs.proofs.FitLaws.{found_fits, fits_found}
 use Rattle.runs.proofs.EmbedLaws.{fits_embeds, embeds_fits}
-use Rattle.runs.proofs.TreeLaws.{some_inj, one_parent, chain_less}
+use Rattle.runs.proofs.TreeLaws.{one_parent, chain_less}
 use Rattle.runs.proofs.LevelLaws.{level_keep, levels_keep}
 
 -- the tree with other open, closed and waiting nodes
@@ -124,7 +125,7 @@ module _ (rule : List RuleNode) (m : SetModel) (v : ℕ) (vs cs ws cs' ws' : Lis
           (λ d. (
             more_done x d,
             λ q. less_done x d (λ e.
-                let f : x ≡ u = some_inj x u (one_parent m.nodes v (Some x) (Some u) q.0.0.0 chain.0.0 (ap (slice_get m.nodes) (sym e) ∙ q.0.0.1) up) in
+                let f : x ≡ u = same_Some x u (one_parent m.nodes v (Some x) (Some u) q.0.0.0 chain.0.0 (ap (slice_get m.nodes) (sym e) ∙ q.0.0.1) up) in
                 let z : ⊥ = omega arith in z) q,
           ))
           (λ d y q. (λ f. f, λ f. f)) (λ d y q. (λ f. f, λ f. f)) k

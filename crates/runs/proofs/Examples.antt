@@ -57,7 +57,7 @@ module _ (text : List ℕ) (calls : List (Call (List ℕ))) (numbers : List ℕ)
       let g : TextGives text parsed = accepting text parsed (fit text (λ z. omega arith) (leb-true _ _ f.1)) reads in
       let some : 0 < length rule = omega (arith, given_some g, length-map parsed plain) in
       let p = plays rule test (Meets bytes_eq rule labels) (given_ordered g) some (meets_decides rule labels) empty calls plays_on in
-      (parsed, g, p.0, end, p.1, closed, gives)
+      (parsed, g, p.0, end, p.1, p.2, closed, gives)
 
 pub worked : WorkedTrees
 worked = record {

@@ -1,7 +1,6 @@
 pub mod BitLaws
 pub mod SearchLaws
 pub mod EdgeLaws
-pub mod NthLaws
 pub mod WordLaws
 pub mod FitLaws
 pub mod EmbedLaws

@@ -20,7 +20,7 @@ use Rattle.runs.specs.Calls.{nodes_of, Moves, Opening, Steps, Taking}
 use Rattle.runs.specs.Journal.{Filled, meets, StandsAt, Carried}
 use Rattle.runs.specs.MadeCall.{Made}
 use Rattle.runs.proofs.CarriedLaws.{lift_open, lift_close, lift_drop, taking_carried}
-use Rattle.runs.proofs.TakeSim.{take_min}
+use Rattle.runs.proofs.TakeSim.{taken_min}
 
 -- an answer that tells of no taking moved nothing
 still : (a : Answer) (t : Told) → told a ≡ t → ((n : ℕ) → taken n ≡ t → ⊥) → count_taken (told a) ≡ 0
@@ -163,7 +163,7 @@ module _ {L : Type 0} (same : L → L → Bool) (rule : Rule) (labels : List L) 
         let d = took (nodes_of run) at.tree (length (take count out)) next.1 in
         let all : n ≡ min (length at.tree.waiting) (length (take count out)) = taken_inj n _ d.0 in
         let n_is : n ≡ count = omega arith in
-        let same_ws = take_min ws size count few in
+        let same_ws = taken_min ws size count few in
         let same_wait : length at.tree.waiting ≡ length m.waiting = ap length at.carried.waiting in
         let t' : SetModel = taking at.tree size in
         let tree_is : next.0 ≡ taking at.tree size =

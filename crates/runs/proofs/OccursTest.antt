@@ -1,6 +1,6 @@
 -- A test of whether a rule occurs at a node of a model, and what accepted calls do by it. Assumes nothing.
 use Rattle.std.proofs.Common.{◌≡◌, ℕ, zero, suc, ◌+◌, ◌-◌, ◌<◌, ◌≤◌, Bool, true, false, cond, not, ◌&&◌, ◌||◌, ◌==◌, ltb, leb, ◌⊎◌, List, [], ◌∷◌, length, Some, None, Option, Decides, sym, refl, ap, ◌∙◌, subst, subst₂, ⊎_elim, arith, eq-eqb, ne_eqb, leb-true, le-leb}
-use Rattle.std.specs.List.{slice_get}
+use Rattle.std.specs.List.{slice_get, AllByRecursion}
 use Rattle.std.proofs.lemmas.Bool.{false≢true, and_parts, cases_lt, cond-true, cond-false, ltb-true}
 use Rattle.std.proofs.lemmas.Bool.Decides.{Decides-like, Decides-not, Decides-and, Decides-or, Decides-eqb, Decides-below_and, Decides-below_or, not_from_Decides}
 use Rattle.std.proofs.lemmas.Option.{slice_get_within}
@@ -14,7 +14,7 @@ use Rattle.runs.specs.declared.call.Call.{Call}
 use Rattle.runs.specs.declared.call.Call.TheVariants.{Open, Close, Drop, Take}
 use Rattle.runs.specs.Limits.{depth_limit, waiting_limit, openings_limit}
 use Rattle.runs.specs.Picks.{In}
-use Rattle.runs.specs.Answers.{Told}
+use Rattle.runs.specs.Answers.{Told, Accepted}
 use Rattle.runs.specs.Model.{Model, KeptChild, MeetsAt, OccursAt, opening, closing, dropping, taking, Does, opens, selects, passes, drops, takes, Plays, done, more}
 
 -- a condition that is decided where the one before it holds
@@ -279,32 +279,32 @@ module _ {A : Type 0} where
           (meets_decides m) (λ x v h. slice_get_within m.nodes v _ h.2)
 
       closes : (m : Model A) (p : List ℕ) → m.path ≡ p → parents_test m.nodes ≡ true → 0 < length p → length m.waiting < waiting_limit
-          → (t : Told) × Does rule meets m Close t (close_path m p)
+          → (t : Told) × Does rule meets m Close t (close_path m p) × Accepted t
       closes m [] q e pos l = absurd (omega arith)
       closes m (v ∷ vs) q e pos l = go (occurs_at m v) refl
         where
-          go : (b : Bool) → occurs_at m v ≡ b → (t : Told) × Does rule meets m Close t (closing m v vs (cond b (v ∷ []) []))
-          go true h = (_, selects v vs q ((occurs_at_decides m e v).0 h) l)
-          go false h = (_, passes v vs q (not_from_Decides _ (occurs_at_decides m e v) h))
+          go : (b : Bool) → occurs_at m v ≡ b → (t : Told) × Does rule meets m Close t (closing m v vs (cond b (v ∷ []) [])) × Accepted t
+          go true h = (_, selects v vs q ((occurs_at_decides m e v).0 h) l, tt)
+          go false h = (_, passes v vs q (not_from_Decides _ (occurs_at_decides m e v) h), tt)
 
-      falls : (m : Model A) (p : List ℕ) → m.path ≡ p → 0 < length p → (t : Told) × Does rule meets m Drop t (drop_path m p)
+      falls : (m : Model A) (p : List ℕ) → m.path ≡ p → 0 < length p → (t : Told) × Does rule meets m Drop t (drop_path m p) × Accepted t
       falls m [] q pos = absurd (omega arith)
-      falls m (v ∷ vs) q pos = (_, drops v vs q)
+      falls m (v ∷ vs) q pos = (_, drops v vs q, tt)
 
-      does : (m : Model A) (c : Call A) → accepted m c ≡ true → (t : Told) × Does rule meets m c t (after m c)
-      does m (Open a) e = let r = and_parts _ _ e in (_, opens a (ltb-true _ _ r.0) (ltb-true _ _ r.1))
+      does : (m : Model A) (c : Call A) → accepted m c ≡ true → (t : Told) × Does rule meets m c t (after m c) × Accepted t
+      does m (Open a) e = let r = and_parts _ _ e in (_, opens a (ltb-true _ _ r.0) (ltb-true _ _ r.1), tt)
       does m Close e =
           let r = and_parts _ _ e in
           let s = and_parts _ _ r.1 in
           closes m m.path refl r.0 (ltb-true _ _ s.0) (ltb-true _ _ s.1)
       does m Drop e = falls m m.path refl (ltb-true _ _ e)
-      does m (Take n) e = (_, takes n)
+      does m (Take n) e = (_, takes n, tt)
 
       pub plays : (m : Model A) (cs : List (Call A)) → all_accepted m cs ≡ true
-          → (ts : List Told) × Plays rule meets m cs ts (after_all m cs)
-      plays m [] e = ([], done)
+          → (ts : List Told) × Plays rule meets m cs ts (after_all m cs) × AllByRecursion Accepted ts
+      plays m [] e = ([], done, tt)
       plays m (c ∷ cs) e =
           let r = and_parts _ _ e in
           let d = does m c r.0 in
           let p = plays (after m c) cs r.1 in
-          (d.0 ∷ p.0, more d.1 p.1)
+          (d.0 ∷ p.0, more d.1 p.1, (d.2, p.2))

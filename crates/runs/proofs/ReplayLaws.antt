@@ -3,6 +3,7 @@ use Rattle.std.proofs.Common.{◌≡◌, ℕ, ◌+◌, ◌-◌, ◌<◌, ◌≤�
 use Rattle.std.specs.List.{slice_get}
 use borrow.Rule.Slice.PartMut.{put_mid}
 use Rattle.std.proofs.lemmas.List.{take_rest, drop_all, map-append, take_more, take_all, drop-drop, drop_more, set_at, length-drop, length_push, length-append, take-append-drop}
+use Rattle.std.proofs.lemmas.Option.{slice_get-get_or}
 use Rattle.std.proofs.Math.Seq.{take-append_seam, drop-append_seam}
 use Rattle.rules.specs.declared.node.RuleNode.{RuleNode}
 use Rattle.rules.specs.declared.rule.Rule.{Rule}
@@ -16,7 +17,6 @@ use Rattle.runs.specs.Model.{Model, empty, Plays}
 use Rattle.runs.specs.Stands.{Stands}
 use Rattle.runs.specs.Journal.{Filled, meets, StandsAt, Recorded, Replayed, Unfinished}
 use Rattle.runs.specs.MadeCall.{Made, Unmade}
-use Rattle.runs.proofs.NthLaws.{get_or_slice_get}
 use Rattle.runs.proofs.CarriedLaws.{empty_carried}
 use Rattle.runs.proofs.PlayLaws.{plays_more, plays_one, begun}
 use Rattle.runs.proofs.SelectedLaws.{empty_sound, plays_sound}
@@ -74,19 +74,20 @@ module _ {L : Type 0} (same : L → L → Bool) (rule : Rule) (labels : List L) 
     }
 
     module _ (run : Run) (i handed : ℕ) (answers : List Answer) (numbers : List ℕ) (p : Playing run i handed answers numbers) where
-      -- the part of the list behind the numbers handed out
+      -- the front of the list has the numbers handed out
       front : take handed numbers ≡ p.state.handed
       front = ap (take handed) p.numbers_is ∙ ap (λ (k : ℕ). take k (p.state.handed ++ drop handed numbers₀)) p.count
           ∙ take-append_seam p.state.handed (drop handed numbers₀)
 
+      -- behind them the list is as it was
       pub behind : drop handed numbers ≡ drop handed numbers₀
       behind = ap (drop handed) p.numbers_is ∙ ap (λ (k : ℕ). drop k (p.state.handed ++ drop handed numbers₀)) p.count
           ∙ drop-append_seam p.state.handed (drop handed numbers₀)
 
-      -- what the call promises is of the run's own rule, and of the part of the list
       part : take (length numbers - handed) (drop handed numbers) ≡ drop handed numbers
       part = take_rest numbers handed
 
+      -- what the call promises is of the run's own rule, and of the part of the list
       pub made_here : (c : Call L) (a : Answer) (rest : List ℕ) (run' : Run)
           → ((m : Model L) → StandsAt same run.rule.now labels run m → Made same run.rule.now labels m c a (take (length numbers - handed) (drop handed numbers)) rest run')
           → Made same rule labels p.state c a (drop handed numbers) rest run'
@@ -105,15 +106,12 @@ module _ {L : Type 0} (same : L → L → Bool) (rule : Rule) (labels : List L) 
 
       module _ (c : Call L) (a : Answer) (rest : List ℕ) (run' : Run) (in_calls : i < length calls) (is : c ≡ get_or calls i c) (room : length calls ≤ length answers₀)
           (m : Made same rule labels p.state c a (drop handed numbers) rest run') where
-        few : handed + count_taken (told a) ≤ length numbers₀
-        few =
+        pub still_fits : handed + count_taken (told a) ≤ length numbers₀
+        still_fits =
             let f : length m.hands ≤ length (drop handed numbers) = m.filled.fits in
             let g : length (drop handed numbers) ≡ length numbers₀ - handed = ap length behind ∙ length-drop handed numbers₀ in
             let k = m.count in
             omega (arith, p.fits)
-
-        pub still_fits : handed + count_taken (told a) ≤ length numbers₀
-        still_fits = few
 
         pub playing_more : Playing run' (i + 1) (handed + count_taken (told a)) (set answers i a) (put_mid handed (length numbers - handed) numbers rest)
         playing_more =
@@ -131,7 +129,7 @@ module _ {L : Type 0} (same : L → L → Bool) (rule : Rule) (labels : List L) 
               made = length_push p.given a ∙ ap (λ (k : ℕ). k + 1) p.made;
               count = let k = p.count in let n = m.count in
                   omega (arith, ap length m.handed, length-append p.state.handed m.hands);
-              fits = few;
+              fits = still_fits;
               answers_is = ap (λ (xs : List Answer). set xs i a) (p.answers_is ∙ ap (λ (xs : List Answer). p.given ++ xs) (drop_more answers₀ i a in_answers))
                   ∙ set_at p.given d (drop (i + 1) answers₀) a i long
                   ∙ sym (append_assoc p.given (a ∷ []) (drop (i + 1) answers₀));
@@ -174,7 +172,7 @@ module _ {L : Type 0} (same : L → L → Bool) (rule : Rule) (labels : List L) 
       unfinished c rest run' in_calls is room u =
           let whole : put_mid handed (length numbers - handed) numbers rest ≡ numbers = put_end handed numbers rest ∙ ap (λ (xs : List ℕ). take handed numbers ++ xs) u.list ∙ take-append-drop handed numbers in
           let there : slice_get calls i ≡ Some (Take u.size) =
-          get_or_slice_get calls i c in_calls ∙ ap (λ (x : Call L). Some x) (sym is ∙ u.taking) in
+          slice_get-get_or calls i c in_calls ∙ ap (λ (x : Call L). Some x) (sym is ∙ u.taking) in
           let short : length numbers₀ < length p.state.handed + min (length p.state.waiting) u.size =
           let s = u.short in
           let g : length (drop handed numbers) ≡ length numbers₀ - handed = ap length behind ∙ length-drop handed numbers₀ in

@@ -1,14 +1,13 @@
--- A loop that adds to a set the numbers that pass a test: u is the set before the number n is tried, and v after it.
+-- The searches for the rule nodes that a label meets, step by step: u is the set before the number n is tried, and v after it.
 use Rattle.std.proofs.Common.{◌≡◌, ℕ, ◌+◌, ◌<◌, ◌≤◌, ◌⊎◌, ◌↔◌, Bool, true, false, List, length, get_or, ap, ◌∙◌, sym, inl, inr, ⊎_elim, arith}
 use Rattle.std.proofs.lemmas.Bool.{cases_lt, both_ways}
 use Rattle.std.proofs.lemmas.List.{get_or_default}
-use Rattle.std.proofs.lemmas.Option.{slice_get_within, get_or_from_slice_get}
+use Rattle.std.proofs.lemmas.Option.{slice_get-get_or, slice_get_within, get_or_from_slice_get}
 use Rattle.rules.specs.declared.node.RuleNode.{RuleNode}
 use Rattle.rules.specs.Rule.{any_of}
 use Rattle.rules.specs.Embedding.{Meets}
 use Rattle.rules.proofs.RuleLaws.{few_nodes}
 use Rattle.runs.specs.Bits.{Has}
-use Rattle.runs.proofs.NthLaws.{get_or_slice_get}
 
 -- the rule nodes that every label meets
 module _ (ns : List RuleNode) (x : ℕ) where
@@ -104,7 +103,7 @@ module _ {T : Type 0} (same : T → T → Bool) (ns : List RuleNode) (ls : List 
   named_all n u seen all within = (
     λ h. let k = seen.0 h in (
       k.0,
-      ⊎_elim (λ a. inl a) (λ b. let l : x < n = b.0 in inr (get_or ls x t, get_or_slice_get ls x t (omega arith), b.1)) k.1,
+      ⊎_elim (λ a. inl a) (λ b. let l : x < n = b.0 in inr (get_or ls x t, slice_get-get_or ls x t (omega arith), b.1)) k.1,
     ),
     λ h. seen.1 (
       h.0,

@@ -45,7 +45,7 @@ module _ {A : Type 0} (rule : List RuleNode) (meets : A → ℕ → Type 0) (ord
     selected = record { picked = Picks.none; once = tt };
   }
 
-  -- the same with the path as a list of its own
+  -- v is the innermost open node, and vs are open outside it
   module _ (m : Model A) (v : ℕ) (vs : List ℕ) (is : m.path ≡ v ∷ vs) (s : Sound m) where
     top : Chain m (v ∷ vs)
     top = subst (λ (us : List ℕ). Chain m us) is s.chain

@@ -1,6 +1,6 @@
 -- A taking of the run is one of the reference model.
 use Rattle.std.proofs.Common.{◌≡◌, ℕ, min, List, [], ◌∷◌, ◌++◌, length, take, drop, sym, ap, ◌∙◌, subst, ⊎_elim, arith}
-use Rattle.std.proofs.lemmas.List.{take_all, drop_all}
+use Rattle.std.proofs.lemmas.List.{take_min, drop_min}
 use Rattle.std.proofs.lemmas.Bool.{cases_lt}
 use Rattle.rules.specs.declared.node.RuleNode.{RuleNode}
 use Rattle.runs.specs.declared.call.Call.TheVariants as call
@@ -13,15 +13,10 @@ use Rattle.runs.specs.Stands.{SetModel, Chain, Shows}
 use Rattle.runs.proofs.LevelLaws.{levels_keep}
 
 -- as many as there are, or n
-pub take_min : (ws : List ℕ) (n r : ℕ) → r ≡ min (length ws) n → (take r ws ≡ take n ws) × (drop r ws ≡ drop n ws)
-take_min ws n r e =
-    ⊎_elim
-    (λ l. let f : r ≡ length ws = omega arith in (
-      ap (λ (k : ℕ). take k ws) f ∙ take_all (length ws) ws (omega arith) ∙ sym (take_all n ws (omega arith)),
-      ap (λ (k : ℕ). drop k ws) f ∙ drop_all (length ws) ws (omega arith) ∙ sym (drop_all n ws (omega arith)),
-    ))
-    (λ l. let f : r ≡ n = omega arith in (ap (λ (k : ℕ). take k ws) f, ap (λ (k : ℕ). drop k ws) f))
-    (cases_lt (length ws) n)
+pub taken_min : (ws : List ℕ) (n r : ℕ) → r ≡ min (length ws) n → (take r ws ≡ take n ws) × (drop r ws ≡ drop n ws)
+taken_min ws n r e =
+    let f : r ≡ min n (length ws) = omega arith in
+    (ap (λ (k : ℕ). take k ws) f ∙ take_min n ws, ap (λ (k : ℕ). drop k ws) f ∙ drop_min n ws)
 
 chain_keep : (m : SetModel) (n : ℕ) (vs : List ℕ) → Chain m vs → Chain (taking m n) vs
 chain_keep m n [] c = c
@@ -42,7 +37,7 @@ module _ (rule : List RuleNode) (m : SetModel) (s s' : Words) (xs ys : List ℕ)
       let P : Words → Type 0 = λ q. Shows rule q (taking m (length xs)) in
       subst P (sym k.after) (record {
         opened = h.opened;
-        waiting = ap (λ (ws : List ℕ). drop n ws) h.waiting ∙ (take_min m.waiting (length xs) n count).1;
+        waiting = ap (λ (ws : List ℕ). drop n ws) h.waiting ∙ (taken_min m.waiting (length xs) n count).1;
         levels = levels_keep rule m (taking m (length xs)) m.path s.stack
             (λ u l i q. record { number = q.number; met = q.met; child = q.child; below = q.below }) h.levels;
         chain = chain_keep m (length xs) m.path h.chain;

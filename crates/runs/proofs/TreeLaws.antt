@@ -1,25 +1,23 @@
 -- How the tree of the reference model grows and loses nodes, whatever its nodes carry.
-use Rattle.std.proofs.Common.{◌≡◌, ℕ, ◌+◌, ◌<◌, ◌⊎◌, List, [], ◌∷◌, ◌++◌, length, Some, None, Option, sym, refl, ap, ◌∙◌, inl, inr, ⊎_elim, arith}
+use Rattle.std.proofs.Common.{◌≡◌, ℕ, zero, suc, ◌+◌, ◌<◌, ◌⊎◌, List, [], ◌∷◌, ◌++◌, length, Some, Option, sym, refl, ap, ◌∙◌, inl, inr, ⊎_elim, arith}
 use Rattle.std.specs.List.{slice_get}
 use Rattle.std.proofs.lemmas.List.{length_push}
 use Rattle.std.proofs.lemmas.Bool.{cases_lt}
-use Rattle.std.proofs.lemmas.Option.{slice_get_within}
+use Rattle.std.proofs.lemmas.Option.{slice_get_within, same_Some, none-some}
 use Rattle.rules.specs.Embedding.{Nodes, ParentsFirst}
 use Rattle.rules.proofs.Selects.{nth_last, slice_get_longer}
 use Rattle.runs.specs.Picks.{In}
 use Rattle.runs.specs.Model.{Model, innermost, KeptChild, opening, dropping}
 use Rattle.runs.specs.Stands.{Chain}
-use Rattle.runs.proofs.NthLaws.{slice_get_before}
 
-pub some_inj : (a b : ℕ) → ◌≡◌ {A = Option ℕ} (Some a) (Some b) → a ≡ b
-some_inj a b e = cc
-
-pub none_some : (a : ℕ) → ◌≡◌ {A = Option ℕ} None (Some a) → ⊥
-none_some a e = let z : ◌≡◌ {A = ℕ} 0 1 = cc in omega arith
+slice_get_before : {X : Type 0} (xs ys : List X) (k : ℕ) → k < length xs → slice_get (xs ++ ys) k ≡ slice_get xs k
+slice_get_before [] ys k l = absurd (omega arith)
+slice_get_before (x ∷ xs) ys zero l = refl
+slice_get_before (x ∷ xs) ys (suc k) l = slice_get_before xs ys k (omega arith)
 
 pub first_in : (vs : List ℕ) (u : ℕ) → innermost vs ≡ Some u → In u vs
-first_in [] u e = none_some u e
-first_in (v ∷ vs) u e = inl (sym (some_inj v u e))
+first_in [] u e = none-some u e
+first_in (v ∷ vs) u e = inl (sym (same_Some v u e))
 
 module _ {A : Type 0} where
   -- a node has one parent

@@ -1,4 +1,4 @@
--- The stack and the queue under the writes that the calls make.
+-- The stack and the ring under the writes that the calls make, and what each call does to them.
 use Rattle.std.proofs.Common.{◌≡◌, ℕ, zero, suc, ◌+◌, ◌-◌, ◌%◌, ◌<◌, ◌≤◌, ◌≢◌, List, [], ◌∷◌, ◌++◌, length, get_or, take, drop, set, Bool, true, false, ◌↔◌, Ok, Err, Result, sym, refl, ap, ◌∙◌, subst, ap₂, min, append-nil, arith}
 use Rattle.std.proofs.lemmas.List.{get_or-set_same, get_or-set_other, drop_more, drop_all, set_at, length-take-le, append_assoc, take_more, get_or_default}
 use Rattle.runs.specs.declared.levels.Level.{Level}

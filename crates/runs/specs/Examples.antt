@@ -1,5 +1,6 @@
 -- Examples of rules and trees, as the reference model judges them.
 use Rattle.std.specs.Prelude.{◌≡◌, ℕ, ◌||◌, ◌==◌, if◌then◌else◌, List, [], ◌∷◌, ◌++◌, map, slice_index, bytes_eq, codes}
+use Rattle.std.specs.List.{AllByRecursion}
 use Rattle.std.specs.Str.{byte}
 use Rattle.rules.specs.declared.syntax.ParsedNode.{ParsedNode}
 use Rattle.rules.specs.Embedding.{Meets}
@@ -8,11 +9,13 @@ use Rattle.rules.specs.RuleNodes.{plain_nodes}
 use Rattle.rules.specs.Texts.{TextGives}
 use Rattle.runs.specs.declared.call.Call.{Call}
 use Rattle.runs.specs.declared.call.Call.TheVariants.{Open, Close, Drop}
-use Rattle.runs.specs.Answers.{Told}
+use Rattle.runs.specs.Answers.{Told, Accepted}
 use Rattle.runs.specs.Model.{Model, empty, Plays}
 
 -- A tree as a text: a letter is a node of that name, and behind it stand its children in brackets, if it has any. A space
--- means nothing. The calls of one byte, before the byte next:
+-- means nothing.
+
+-- the calls of the byte b, behind which the byte next stands, or 0 at the end
 abbrev pub calls_of : ℕ → ℕ → List (Call (List ℕ))
 calls_of b next =
     if b == byte " " || b == byte "(" then []
@@ -25,17 +28,18 @@ abbrev pub tree : List ℕ → List (Call (List ℕ))
 tree [] = []
 tree (b ∷ bs) = calls_of b (slice_index bs 0) ++ tree bs
 
+-- the labels of the tests: the bytes of each name, and a star where any is met
 abbrev pub names : List ℕ → List ParsedNode → List (List ℕ)
 names text ns = map (λ n. token_bytes text n.test) ns
 
--- The text gives a rule, and the calls, from the empty model on until nothing is open, select the nodes with these numbers,
--- in closing order. Labels are names, as their bytes.
+-- The text gives a rule, and the calls, all accepted, from the empty model on until nothing is open, select the nodes with these
+-- numbers, in closing order. Labels are names, as their bytes.
 abbrev pub Reports : List ℕ → List (Call (List ℕ)) → List ℕ → Type 0
 Reports text calls numbers =
     (ns : List ParsedNode) × TextGives text ns
     × (ts : List Told) × (m : Model (List ℕ))
     × Plays (plain_nodes ns) (Meets bytes_eq (plain_nodes ns) (names text ns)) empty calls ts m
-    × (m.path ≡ []) × (m.handed ++ m.waiting ≡ numbers)
+    × AllByRecursion Accepted ts × (m.path ≡ []) × (m.handed ++ m.waiting ≡ numbers)
 
 -- the trees of some texts; nodes are numbered from 0 on as they are opened
 pub record WorkedTrees : Type 0 where

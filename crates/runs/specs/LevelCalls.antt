@@ -18,11 +18,12 @@ Found rule l w = (x : ℕ) → Has w x ↔ (Has l.met x × EdgesMet rule l.child
 abbrev pub joined : ℕ → ℕ → Level → Level
 joined w b p = record { met = p.met; child = bit_or p.child w; below = bit_or p.below (bit_or w b); number = p.number }
 
--- the nodes above one that is closed
+-- the nodes above one that is closed, where w was found at it and b below it
 abbrev pub above : ℕ → ℕ → List Level → List Level
 above w b [] = []
 above w b (p ∷ ps) = joined w b p ∷ ps
 
+-- a new node that meets the tests w
 pub data Opens (w : ℕ) : Words → Result ℕ Refusal → Words → Type 0 where
   deep : {m : Words} → length m.stack ≡ depth_limit → Opens w m (Err TooDeep) m
   many : {m : Words} → length m.stack < depth_limit → m.opened ≡ openings_limit → Opens w m (Err TooMany) m
@@ -44,7 +45,7 @@ pub data Drops : Words → Result (Unit {0}) Refusal → Words → Type 0 where
   drops : {m : Words} (l : Level) (ps : List Level) → m.stack ≡ l ∷ ps
       → Drops m (Ok tt) (record { stack = ps; opened = m.opened; waiting = m.waiting })
 
--- xs, ys: the caller's list before and after
+-- xs, ys: the caller's list before and after it
 pub record Takes (m : Words) (xs : List ℕ) (n : ℕ) (ys : List ℕ) (m' : Words) : Type 0 where
   pub count : n ≡ min (length m.waiting) (length xs)
   pub list : ys ≡ take n m.waiting ++ drop n xs
@@ -75,6 +76,7 @@ abbrev pub merged : ℕ → ℕ → List Level → List Level
 merged w b [] = []
 merged w b (l ∷ ps) = above w b ps
 
+-- the innermost node is closed, at which w was found, and b below it
 pub record Merges (w b : ℕ) (s s' : Levels) : Type 0 where
   pub stack : stacked s'.open s'.depth ≡ merged w b (stacked s.open s.depth)
   pub opened : s'.opened ≡ s.opened

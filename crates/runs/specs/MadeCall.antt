@@ -11,7 +11,8 @@ use Rattle.runs.specs.Model.{Model, Does}
 use Rattle.runs.specs.Journal.{Filled, meets, StandsAt}
 
 module _ {L : Type 0} (same : L → L → Bool) (rule : Rule) (labels : List L) where
-  -- One call, which moves numbers to the front of the list: the model's next state, for which the run stands.
+  -- The call was made: state is the model's next state, for which the run stands, and hands are the numbers that it moved, at the
+  -- front of the list.
   pub record Made (m : Model L) (c : Call L) (a : Answer) (numbers numbers' : List ℕ) (run : Run) : Type 0 where
     pub state : Model L
     pub does : Does (rule_nodes rule) (meets same rule labels) m c (told a) state

@@ -48,12 +48,13 @@ LevelsStand rule m [] (l ∷ ls) = ⊥
 LevelsStand rule m (v ∷ vs) [] = ⊥
 LevelsStand rule m (v ∷ vs) (l ∷ ls) = LevelStands rule m v l × LevelsStand rule m vs ls
 
--- each open node is a child of the next, and was not dropped
+-- each open node is a child of the next, the outermost is a root, and none was dropped
 abbrev pub Chain : {A : Type 0} → Model A → List ℕ → Type 0
 Chain m [] = Unit {0}
 Chain {A} m (v ∷ vs) = ((a : A) × (slice_get m.nodes v ≡ Some (innermost vs, a))) × (In v m.dropped → ⊥) × Chain m vs
 
--- The state s, as lists, stands for the model m.
+-- The state s, as lists, stands for the model m. It keeps neither the closed nodes nor the numbers handed out, so that m may
+-- have any.
 pub record Shows (rule : List RuleNode) (s : Words) (m : SetModel) : Type 0 where
   pub opened : s.opened ≡ length m.nodes
   pub waiting : s.waiting ≡ m.waiting

@@ -13,7 +13,7 @@ use rules::rule::Rule;
 use std::error::Error;
 use std::fmt;
 
-/// What is left of a whole journal: the run after its last call, and how many numbers its takings moved.
+/// What a replay gives: the run after the last call, and how many numbers the takings moved.
 #[derive(Drop)]
 pub struct Outcome<'r> {
     pub run: Run<'r>,
@@ -25,8 +25,7 @@ pub struct Outcome<'r> {
 pub enum Shortage {
     /// The list for the answers has fewer entries than the journal has calls.
     Answers,
-    /// The taking with this number in the journal moves more numbers than fit behind those that were handed out before it,
-    /// whose count this is.
+    /// The taking `call`, counted from 0, moves more numbers than fit behind the `handed` ones that were handed out before it.
     Numbers { call: usize, handed: usize },
 }
 
@@ -93,6 +92,7 @@ impl<'r> Run<'r> {
             let Some(answer) = self.make(labels, call, &mut numbers[handed..]) else {
                 return Err(Shortage::Numbers { call: i, handed });
             };
+            // By index, since the proof goes by the places that are written.
             answers[i] = answer;
             handed += answer.moved();
         }
@@ -101,7 +101,12 @@ impl<'r> Run<'r> {
 }
 
 /// Makes a new run of the rule, and makes the calls of the journal on it, openings with this list of labels. The answers go to
-/// the front of `answers`, and the numbers that the takings move to the front of `numbers`.
+/// the front of `answers`, and the numbers that the takings move to the front of `numbers`; the rests stay as they were.
+///
+/// # Errors
+///
+/// With fewer answers than calls nothing is done. A taking whose numbers do not fit is not made, and the run is given up; the
+/// calls before it are made and answered.
 #[tactic(auto, using(crate::proofs::ReplayLaws::few_answers))]
 pub fn replay<'r, L: LabelKind>(
     rule: &'r Rule,

@@ -1,4 +1,4 @@
-//! What is proved of the reference model.
+//! Examples of trees, as the reference model judges them.
 ghost use Rattle.runs.specs.Examples.{WorkedTrees};
 
 /// The examples come out of the reference model as they should.

@@ -9,8 +9,8 @@ use crate::refusal::Refusal;
 use crate::run::{DEPTH_LIMIT, OPENINGS_LIMIT, WAITING_LIMIT};
 use rules::rule::Rule;
 
-/// An open node: the rule nodes whose test it meets, those found at a child of it so far and those found at a proper
-/// descendant of it so far, and its number.
+/// An open node: the rule nodes whose tests it meets, those found at a closed child of it, those found at or below a closed
+/// child of it, and its number.
 #[derive(Clone, Copy)]
 pub struct Level {
     pub met: NodeSet,
@@ -20,7 +20,7 @@ pub struct Level {
 }
 
 /// The open nodes, outermost first, and the numbers that wait, in a ring with the oldest at `head`. Plain arrays with counts:
-/// the state of a run has a fixed size, and what closes and waits in it is proved by places.
+/// the state of a run has a fixed size, and the proofs speak of entries by their places.
 #[derive(Clone, Copy)]
 pub struct Levels {
     pub open: [Level; DEPTH_LIMIT],

@@ -1,4 +1,4 @@
-//! Why a run refuses a call: for its state.
+//! Why a run refuses a call.
 ghost use Rattle.std.specs.Prelude.{◌≡◌, Some};
 ghost use Rattle.std.specs.Fmt.{decimal};
 ghost use Rattle.runs.specs.Refusals.{number};
