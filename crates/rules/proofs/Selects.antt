@@ -93,15 +93,13 @@ below_last {C = C} (deeper {u = u} {w = w} h t) =
 
 ------------------------------------------------------------------------
 -- φ with n moved to c
-pub put : (ℕ → ℕ) → ℕ → ℕ → ℕ → ℕ
+abbrev pub put : (ℕ → ℕ) → ℕ → ℕ → ℕ → ℕ
 put φ n c k = cond (eqb k n) c (φ k)
 
 pub put_here : (φ : ℕ → ℕ) (n c : ℕ) → put φ n c n ≡ c
-unfolding put
 put_here φ n c = cond-true (eqb n n) c (φ n) (eq-eqb n n refl)
 
 pub put_else : (φ : ℕ → ℕ) (n c k : ℕ) → k < n → put φ n c k ≡ φ k
-unfolding put
 put_else φ n c k h = cond-false (eqb k n) c (φ k) (ne_eqb k n (λ e. omega arith))
 
 ------------------------------------------------------------------------

@@ -6,6 +6,7 @@ use Rattle.rules.specs.declared.node.Edge.TheVariants as edge
 use Rattle.rules.specs.declared.node.RuleNode.{RuleNode}
 use Rattle.rules.specs.Rule.{parent_of, edge_of}
 use Rattle.rules.specs.Embedding.{Nodes, Below, direct, deeper, Across, Occurs}
+use Rattle.runs.proofs.FitLaws.{across_moves}
 use Rattle.runs.specs.declared.call.Call.{Call}
 use Rattle.runs.specs.declared.call.Call.TheVariants.{Open, Close, Drop}
 use Rattle.runs.specs.Bits.{Has, SetOf}
@@ -18,21 +19,13 @@ use Rattle.runs.specs.Journal.{SetsOf, Carried}
 -- the same mapping, where children stay children and tests stay met
 module _ (rule : List RuleNode) (C C' M M' : ℕ → ℕ → Type 0)
     (children : (u v : ℕ) → C u v → C' u v) (tests : (x v : ℕ) → x < length rule → M x v → M' x v) where
-  below_like : {u v : ℕ} → Below C u v → Below C' u v
-  below_like {u} {v} (direct k) = direct (children u v k)
-  below_like {u} (deeper {w = w} k b) = deeper (children u w k) (below_like b)
-
-  across_like : (e : Edge) (u v : ℕ) → Across C e u v → Across C' e u v
-  across_like edge.Child u v a = children u v a
-  across_like edge.Descendant u v a = below_like a
-
   pub occurs_like : (v : ℕ) → Occurs rule C M v → Occurs rule C' M' v
   occurs_like v o = (
     o.0,
     record {
       root = o.1.root;
       tests = λ x l. tests x (o.0 x) l (o.1.tests x l);
-      edges = λ x a l. across_like (edge_of rule x) (o.0 (parent_of rule x)) (o.0 x) (o.1.edges x a l);
+      edges = λ x a l. (across_moves C C' (λ _. Unit {0}) (λ u v _ k. (tt, children u v k)) (edge_of rule x) (o.0 (parent_of rule x)) (o.0 x) tt (o.1.edges x a l)).1;
     },
   )
 

@@ -20,7 +20,7 @@ use Rattle.runs.specs.Stands.{SetModel, FitsAt, ClosedChild, FitsWithin, LevelSt
 use Rattle.runs.proofs.BitLaws.{has_or}
 use Rattle.runs.proofs.FitLaws.{found_fits, fits_found}
 use Rattle.runs.proofs.EmbedLaws.{fits_embeds, embeds_fits}
-use Rattle.runs.proofs.TreeLaws.{one_parent, chain_less}
+use Rattle.runs.proofs.TreeLaws.{with_path, one_parent, chain_less}
 use Rattle.runs.proofs.LevelLaws.{level_keep, levels_keep}
 
 -- the tree with other open, closed and waiting nodes
@@ -142,7 +142,7 @@ module _ (rule : List RuleNode) (m : SetModel) (v : ℕ) (vs cs ws cs' ws' : Lis
 
 module _ (rule : List RuleNode) (ordered : Ordered rule) (some : 0 < length rule) (m : SetModel) where
   abbrev with_path : List ℕ → SetModel
-  with_path vs = moved m vs m.closed m.waiting
+  with_path m vs = moved m vs m.closed m.waiting
 
   occurs : (v : ℕ) → FitsAt rule m 0 v → OccursAt rule Has m v
   occurs v f = fits_embeds rule ordered some (KeptChild m) (MeetsAt Has m) v f
@@ -150,22 +150,22 @@ module _ (rule : List RuleNode) (ordered : Ordered rule) (some : 0 < length rule
   fitting : (v : ℕ) → OccursAt rule Has m v → FitsAt rule m 0 v
   fitting v o = embeds_fits rule ordered some (KeptChild m) (MeetsAt Has m) v o.0 o.1
 
-  close_at : {s s' : Words} {r : Result Bool Refusal} (vs : List ℕ) → Shows rule s (with_path vs) → Closes rule s r s'
-      → (m' : SetModel) × Does rule Has (with_path vs) call.Close (told_by closed r) m' × Shows rule s' m'
-  close_at [] h (Closes.none e) = (with_path [], Does.none_to_close refl, h)
-  close_at [] h (Closes.full l ps w e found k n) = let P : List Level → Type 0 = LevelsStand rule (with_path []) [] in absurd (subst P e h.levels)
-  close_at [] h (Closes.selects l ps w e found k n) = let P : List Level → Type 0 = LevelsStand rule (with_path []) [] in absurd (subst P e h.levels)
-  close_at [] h (Closes.passes l ps w e found k) = let P : List Level → Type 0 = LevelsStand rule (with_path []) [] in absurd (subst P e h.levels)
-  close_at (v ∷ vs) h (Closes.none e) = let P : List Level → Type 0 = LevelsStand rule (with_path (v ∷ vs)) (v ∷ vs) in absurd (subst P e h.levels)
+  close_at : {s s' : Words} {r : Result Bool Refusal} (vs : List ℕ) → Shows rule s (with_path m vs) → Closes rule s r s'
+      → (m' : SetModel) × Does rule Has (with_path m vs) call.Close (told_by closed r) m' × Shows rule s' m'
+  close_at [] h (Closes.none e) = (with_path m [], Does.none_to_close refl, h)
+  close_at [] h (Closes.full l ps w e found k n) = let P : List Level → Type 0 = LevelsStand rule (with_path m []) [] in absurd (subst P e h.levels)
+  close_at [] h (Closes.selects l ps w e found k n) = let P : List Level → Type 0 = LevelsStand rule (with_path m []) [] in absurd (subst P e h.levels)
+  close_at [] h (Closes.passes l ps w e found k) = let P : List Level → Type 0 = LevelsStand rule (with_path m []) [] in absurd (subst P e h.levels)
+  close_at (v ∷ vs) h (Closes.none e) = let P : List Level → Type 0 = LevelsStand rule (with_path m (v ∷ vs)) (v ∷ vs) in absurd (subst P e h.levels)
   close_at (v ∷ vs) h (Closes.full l ps w e found k n) =
-      let P : List Level → Type 0 = LevelsStand rule (with_path (v ∷ vs)) (v ∷ vs) in
+      let P : List Level → Type 0 = LevelsStand rule (with_path m (v ∷ vs)) (v ∷ vs) in
       let q = subst P e h.levels in (
-        with_path (v ∷ vs),
+        with_path m (v ∷ vs),
         Does.waiting_full v vs refl (occurs v (word_fits rule m v vs m.closed m.waiting [] [] h.chain h.parents l w found q.0 0 k)) (ap length (sym h.waiting) ∙ n),
         h,
       )
   close_at (v ∷ vs) h (Closes.selects l ps w e found k n) =
-      let P : List Level → Type 0 = LevelsStand rule (with_path (v ∷ vs)) (v ∷ vs) in
+      let P : List Level → Type 0 = LevelsStand rule (with_path m (v ∷ vs)) (v ∷ vs) in
       let q = subst P e h.levels in (
         closing m v vs (v ∷ []),
         Does.selects v vs refl (occurs v (word_fits rule m v vs m.closed m.waiting [] [] h.chain h.parents l w found q.0 0 k)) (omega (arith, ap length h.waiting)),
@@ -179,7 +179,7 @@ module _ (rule : List RuleNode) (ordered : Ordered rule) (some : 0 < length rule
         },
       )
   close_at (v ∷ vs) h (Closes.passes l ps w e found k) =
-      let P : List Level → Type 0 = LevelsStand rule (with_path (v ∷ vs)) (v ∷ vs) in
+      let P : List Level → Type 0 = LevelsStand rule (with_path m (v ∷ vs)) (v ∷ vs) in
       let q = subst P e h.levels in (
         closing m v vs [],
         Does.passes v vs refl (λ o. k (fits_word rule m v vs m.closed m.waiting [] [] h.chain h.parents l w found q.0 0 (fitting v o))),

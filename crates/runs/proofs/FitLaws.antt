@@ -23,9 +23,8 @@ module _ (H : ℕ → Type 0) (P : ℕ → ℕ → Type 0) (f : (y : ℕ) → H 
   picked y (inl h) k = (f y h).1
   picked y (inr h) k = absurd (h k)
 
--- what fits at nodes with Q fits there too where Q's nodes have the same children and tests
-module _ (rule : List RuleNode) (C C' M M' : ℕ → ℕ → Type 0) (Q : ℕ → Type 0)
-    (down : (u v : ℕ) → Q u → C u v → Q v × C' u v) (tests : (x v : ℕ) → Q v → M x v → M' x v) where
+-- below nodes with Q, where Q's nodes have the same children
+module _ (C C' : ℕ → ℕ → Type 0) (Q : ℕ → Type 0) (down : (u v : ℕ) → Q u → C u v → Q v × C' u v) where
   pub below_moves : {u v : ℕ} → Q u → Below C u v → Q v × Below C' u v
   below_moves {u} {v} q (direct k) = let d = down u v q k in (d.0, direct d.1)
   below_moves {u} q (deeper {w = w} k b) =
@@ -33,15 +32,18 @@ module _ (rule : List RuleNode) (C C' M M' : ℕ → ℕ → Type 0) (Q : ℕ �
       let r = below_moves d.0 b in
       (r.0, deeper d.1 r.1)
 
-  across_moves : (e : Edge) (u v : ℕ) → Q u → Across C e u v → Q v × Across C' e u v
+  pub across_moves : (e : Edge) (u v : ℕ) → Q u → Across C e u v → Q v × Across C' e u v
   across_moves edge.Child u v q a = down u v q a
   across_moves edge.Descendant u v q a = below_moves q a
 
+-- what fits at such nodes fits there too where they meet the same tests
+module _ (rule : List RuleNode) (C C' M M' : ℕ → ℕ → Type 0) (Q : ℕ → Type 0)
+    (down : (u v : ℕ) → Q u → C u v → Q v × C' u v) (tests : (x v : ℕ) → Q v → M x v → M' x v) where
   pub fits_moves : {x v : ℕ} → Q v → Fits rule C M x v → Fits rule C' M' x v
   fits_moves {x} {v} q (Fits.fits φ l m near sub) =
       Fits.fits φ l (tests x v q m)
-      (λ y a b e. (across_moves (edge_of rule y) v (φ y) q (near y a b e)).1)
-      (λ y a b e. fits_moves (across_moves (edge_of rule y) v (φ y) q (near y a b e)).0 (sub y a b e))
+      (λ y a b e. (across_moves C C' Q down (edge_of rule y) v (φ y) q (near y a b e)).1)
+      (λ y a b e. fits_moves (across_moves C C' Q down (edge_of rule y) v (φ y) q (near y a b e)).0 (sub y a b e))
 
 -- the word that closing a node makes has the rule nodes that fit at it
 module _ (rule : List RuleNode) (C M : ℕ → ℕ → Type 0) (v : ℕ) (l : Level) (w : ℕ) (found : Found rule l w)

@@ -56,7 +56,7 @@ module _ (rule : List RuleNode) (m m' : SetModel) (Q : ℕ → Type 0)
   pub within_same : (d y : ℕ) → Q d → FitsWithin rule m y d ↔ FitsWithin rule m' y d
   within_same d y q = (
     ⊎_elim (λ f. inl ((fits_same d y q).0 f))
-        (λ r. let b = below_moves rule (KeptChild m) (KeptChild m') (MeetsAt Has m) (MeetsAt Has m') Q fw there q r.1 in inr (r.0, b.1, (fits_same r.0 y b.0).0 r.2)),
+        (λ r. let b = below_moves (KeptChild m) (KeptChild m') Q fw q r.1 in inr (r.0, b.1, (fits_same r.0 y b.0).0 r.2)),
     ⊎_elim (λ f. inl ((fits_same d y q).1 f))
-        (λ r. let b = below_moves rule (KeptChild m') (KeptChild m) (MeetsAt Has m') (MeetsAt Has m) Q bw again q r.1 in inr (r.0, b.1, (fits_same r.0 y b.0).1 r.2)),
+        (λ r. let b = below_moves (KeptChild m') (KeptChild m) Q bw q r.1 in inr (r.0, b.1, (fits_same r.0 y b.0).1 r.2)),
   )

@@ -9,7 +9,7 @@ use Rattle.rules.specs.declared.node.Edge.TheVariants as edge
 use Rattle.rules.specs.declared.node.RuleNode.{RuleNode}
 use Rattle.rules.specs.Rule.{parent_of, edge_of, Ordered}
 use Rattle.rules.specs.Embedding.{Nodes, Below, Across, Occurs, ParentsFirst}
-use Rattle.rules.proofs.Selects.{below_from, below_last}
+use Rattle.rules.proofs.Selects.{below_from, below_last, put, put_here, put_else}
 use Rattle.runs.specs.declared.call.Call.{Call}
 use Rattle.runs.specs.declared.call.Call.TheVariants.{Open, Close, Drop, Take}
 use Rattle.runs.specs.Limits.{depth_limit, waiting_limit, openings_limit}
@@ -59,16 +59,6 @@ in_decides : (v : ℕ) (us : List ℕ) → Decides (in_test v us) (In v us)
 in_decides v [] = (λ e. absurd (false≢true e), λ i. absurd i)
 in_decides v (u ∷ us) = Decides-or _ _ (Decides-eqb v u) (in_decides v us)
 
--- φ, but c at k
-abbrev at : (ℕ → ℕ) → ℕ → ℕ → ℕ → ℕ
-at φ k c x = cond (x == k) c (φ x)
-
-at_it : (φ : ℕ → ℕ) (k c : ℕ) → at φ k c k ≡ c
-at_it φ k c = cond-true (k == k) c (φ k) (eq-eqb k k refl)
-
-at_lower : (φ : ℕ → ℕ) (k c x : ℕ) → x < k → at φ k c x ≡ φ x
-at_lower φ k c x l = cond-false (x == k) c (φ x) (ne_eqb x k (λ e. omega arith))
-
 ------------------------------------------------------------------------
 -- a rule, and n nodes
 
@@ -89,7 +79,7 @@ module _ (rule : List RuleNode) (n : ℕ) (child_test meets_test : ℕ → ℕ �
   -- the rule nodes below k are at φ, and the j others are tried at each node
   abbrev places_test : ℕ → ℕ → (ℕ → ℕ) → Bool
   places_test zero k φ = true
-  places_test (suc j) k φ = some_below n (λ c. let r = places_test j (suc k) (at φ k c) in node_test k φ c && r)
+  places_test (suc j) k φ = some_below n (λ c. let r = places_test j (suc k) (put φ k c) in node_test k φ c && r)
 
   abbrev pub occurs_test : ℕ → Bool
   occurs_test v = let r = places_test (length rule - 1) 1 (λ x. v) in meets_test 0 v && r
@@ -128,13 +118,13 @@ module _ (rule : List RuleNode) (n : ℕ) (child_test meets_test : ℕ → ℕ �
 
     -- with rule node k at c
     abbrev Next : ℕ → (ℕ → ℕ) → ℕ → Type 0
-    Next k φ c = May k (φ (parent_of rule k)) c × Placed (suc k) (at φ k c)
+    Next k φ c = May k (φ (parent_of rule k)) c × Placed (suc k) (put φ k c)
 
     gather : (k : ℕ) (φ : ℕ → ℕ) → parent_of rule k < k → (c : ℕ) → Next k φ c → Placed k φ
     gather k φ lower c h =
         let p = h.1 in
-        let here : p.ψ k ≡ c = p.same k (omega arith) ∙ at_it φ k c in
-        let same : (x : ℕ) → x < k → p.ψ x ≡ φ x = λ x a. p.same x (omega arith) ∙ at_lower φ k c x a in
+        let here : p.ψ k ≡ c = p.same k (omega arith) ∙ put_here φ k c in
+        let same : (x : ℕ) → x < k → p.ψ x ≡ φ x = λ x a. p.same x (omega arith) ∙ put_else φ k c x a in
         let P : ℕ → Type 0 = λ x. May x (p.ψ (parent_of rule x)) (p.ψ x) in
         let first : P k = subst₂ (May k) (sym (same (parent_of rule k) lower)) (sym here) h.0 in
         record {
@@ -149,8 +139,8 @@ module _ (rule : List RuleNode) (n : ℕ) (child_test meets_test : ℕ → ℕ �
       record {
         ψ = p.ψ;
         same = λ x a. ⊎_elim
-            (λ s. p.same x s ∙ sym (at_lower φ k (p.ψ k) x s))
-            (λ s. let q : k ≡ x = omega arith in subst (λ z. p.ψ z ≡ at φ k (p.ψ k) z) q (sym (at_it φ k (p.ψ k))))
+            (λ s. p.same x s ∙ sym (put_else φ k (p.ψ k) x s))
+            (λ s. let q : k ≡ x = omega arith in subst (λ z. p.ψ z ≡ put φ k (p.ψ k) z) q (sym (put_here φ k (p.ψ k))))
             (cases_lt x k);
         rest = λ x a b. p.rest x (omega arith) b;
       },
@@ -162,10 +152,10 @@ module _ (rule : List RuleNode) (n : ℕ) (child_test meets_test : ℕ → ℕ �
     places_decides (suc j) k φ pos q =
         let l : k < length rule = omega arith in
         let lower : parent_of rule k < k = ordered k pos l in
-        let each : (c : ℕ) → Decides (node_test k φ c && places_test j (suc k) (at φ k c)) (Next k φ c) = λ c.
+        let each : (c : ℕ) → Decides (node_test k φ c && places_test j (suc k) (put φ k c)) (Next k φ c) = λ c.
         Decides-and _ _
         (Decides-and _ _ (meets k c) (across_decides (edge_of rule k) (φ (parent_of rule k)) c))
-        (places_decides j (suc k) (at φ k c) (omega arith) (omega arith)) in
+        (places_decides j (suc k) (put φ k c) (omega arith) (omega arith)) in
         Decides-like _
         (λ h. gather k φ lower h.0 h.2)
         (λ p. let s = spread k φ lower l p in (p.ψ k, within k (p.ψ k) s.0.0, s))

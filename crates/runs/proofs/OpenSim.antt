@@ -15,13 +15,13 @@ use Rattle.runs.specs.Answers.{told_by, opened, dropped}
 use Rattle.runs.specs.Model.{innermost, KeptChild, opening, dropping, Does}
 use Rattle.runs.specs.Stands.{SetModel, ClosedChild, LevelsStand, Chain, Shows}
 use Rattle.runs.proofs.BitLaws.{has_none}
-use Rattle.runs.proofs.TreeLaws.{Off, drop_fw, drop_bw, drop_chain, drop_inside, Off₁, longer, last, within₁, child_on, child_off, open_fw, open_bw, same₁, open_chain, open_parents, open_inside}
+use Rattle.runs.proofs.TreeLaws.{with_path, Off, drop_fw, drop_bw, drop_chain, drop_inside, Off₁, longer, last, within₁, child_on, child_off, open_fw, open_bw, same₁, open_chain, open_parents, open_inside}
 use Rattle.runs.proofs.LevelLaws.{level_keep, levels_keep, fits_same, within_same}
 
 -- ---- dropping the innermost open node v
 module _ (rule : List RuleNode) (m : SetModel) (v : ℕ) (vs : List ℕ) (chain : Chain m (v ∷ vs)) (parents : ParentsFirst m.nodes) where
   abbrev m₀ : SetModel
-  m₀ = record { nodes = m.nodes; path = v ∷ vs; dropped = m.dropped; closed = m.closed; waiting = m.waiting; handed = m.handed }
+  m₀ = with_path m (v ∷ vs)
 
   abbrev m₁ : SetModel
   m₁ = dropping m v vs
@@ -59,14 +59,11 @@ module _ (rule : List RuleNode) (m : SetModel) (v : ℕ) (vs : List ℕ) (chain 
       }
 
 module _ (rule : List RuleNode) (m : SetModel) where
-  abbrev with_path : List ℕ → SetModel
-  with_path vs = record { nodes = m.nodes; path = vs; dropped = m.dropped; closed = m.closed; waiting = m.waiting; handed = m.handed }
-
-  drop_at : {s s' : Words} {r : Result (Unit {0}) Refusal} (vs : List ℕ) → Shows rule s (with_path vs) → Drops s r s'
-      → (m' : SetModel) × Does rule Has (with_path vs) call.Drop (told_by (λ _. dropped) r) m' × Shows rule s' m'
-  drop_at [] h (Drops.none e) = (with_path [], Does.none_to_drop refl, h)
-  drop_at [] h (Drops.drops l ps e) = let P : List Level → Type 0 = LevelsStand rule (with_path []) [] in absurd (subst P e h.levels)
-  drop_at (v ∷ vs) h (Drops.none e) = let P : List Level → Type 0 = LevelsStand rule (with_path (v ∷ vs)) (v ∷ vs) in absurd (subst P e h.levels)
+  drop_at : {s s' : Words} {r : Result (Unit {0}) Refusal} (vs : List ℕ) → Shows rule s (with_path m vs) → Drops s r s'
+      → (m' : SetModel) × Does rule Has (with_path m vs) call.Drop (told_by (λ _. dropped) r) m' × Shows rule s' m'
+  drop_at [] h (Drops.none e) = (with_path m [], Does.none_to_drop refl, h)
+  drop_at [] h (Drops.drops l ps e) = let P : List Level → Type 0 = LevelsStand rule (with_path m []) [] in absurd (subst P e h.levels)
+  drop_at (v ∷ vs) h (Drops.none e) = let P : List Level → Type 0 = LevelsStand rule (with_path m (v ∷ vs)) (v ∷ vs) in absurd (subst P e h.levels)
   drop_at {s = s} (v ∷ vs) h (Drops.drops l ps e) =
       (dropping m v vs, Does.drops v vs refl, drop_shows rule m v vs h.chain h.parents s l ps e h)
 

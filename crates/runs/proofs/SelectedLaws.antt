@@ -68,16 +68,12 @@ module _ {A : Type 0} (rule : List RuleNode) (meets : A → ℕ → Type 0) (ord
 
     closing_sound : (ws : List ℕ) → Picks (OccursAt rule meets m) (m.closed ++ v ∷ []) (m.handed ++ (m.waiting ++ ws)) → Sound (closing m v vs ws)
     closing_sound ws picked = record {
-      chain = chain_of vs top.2;
+      chain = top.2;
       parents = s.parents;
       inside = s.inside;
       settled = closing_settled;
       selected = record { picked = picked; once = closing_once };
     }
-      where
-        chain_of : (us : List ℕ) → Chain m us → Chain (closing m v vs ws) us
-        chain_of [] c = tt
-        chain_of (u ∷ us) c = (c.0, c.1, chain_of us c.2)
 
     pub selects_sound : OccursAt rule meets m v → Sound (closing m v vs (v ∷ []))
     selects_sound o =
@@ -131,7 +127,7 @@ module _ {A : Type 0} (rule : List RuleNode) (meets : A → ℕ → Type 0) (ord
 
   taking_sound : (m : Model A) (n : ℕ) → Sound m → Sound (taking m n)
   taking_sound m n s = record {
-    chain = chain_of m.path s.chain;
+    chain = s.chain;
     parents = s.parents;
     inside = s.inside;
     settled = s.settled;
@@ -141,10 +137,6 @@ module _ {A : Type 0} (rule : List RuleNode) (meets : A → ℕ → Type 0) (ord
       once = s.selected.once;
     };
   }
-    where
-      chain_of : (us : List ℕ) → Chain m us → Chain (taking m n) us
-      chain_of [] c = tt
-      chain_of (u ∷ us) c = (c.0, c.1, chain_of us c.2)
 
   pub does_sound : {m m' : Model A} {c : Call A} {t : Told} → Sound m → Does rule meets m c t m' → Sound m'
   does_sound s (Does.too_deep a e) = s

@@ -18,10 +18,6 @@ taken_min ws n r e =
     let f : r ≡ min n (length ws) = omega arith in
     (ap (λ (k : ℕ). take k ws) f ∙ take_min n ws, ap (λ (k : ℕ). drop k ws) f ∙ drop_min n ws)
 
-chain_keep : (m : SetModel) (n : ℕ) (vs : List ℕ) → Chain m vs → Chain (taking m n) vs
-chain_keep m n [] c = c
-chain_keep m n (v ∷ vs) c = (c.0, c.1, chain_keep m n vs c.2)
-
 module _ (rule : List RuleNode) (m : SetModel) (s s' : Words) (xs ys : List ℕ) (n : ℕ) (h : Shows rule s m) (k : Takes s xs n ys s') where
   count : n ≡ min (length m.waiting) (length xs)
   count = k.count ∙ ap (λ (ws : List ℕ). min (length ws) (length xs)) h.waiting
@@ -40,7 +36,7 @@ module _ (rule : List RuleNode) (m : SetModel) (s s' : Words) (xs ys : List ℕ)
         waiting = ap (λ (ws : List ℕ). drop n ws) h.waiting ∙ (taken_min m.waiting (length xs) n count).1;
         levels = levels_keep rule m (taking m (length xs)) m.path s.stack
             (λ u l i q. record { number = q.number; met = q.met; child = q.child; below = q.below }) h.levels;
-        chain = chain_keep m (length xs) m.path h.chain;
+        chain = h.chain;
         parents = h.parents;
         inside = h.inside;
       })

@@ -20,6 +20,10 @@ first_in [] u e = none-some u e
 first_in (v ∷ vs) u e = inl (sym (same_Some v u e))
 
 module _ {A : Type 0} where
+  -- the model with other open nodes
+  abbrev pub with_path : Model A → List ℕ → Model A
+  with_path m vs = record { nodes = m.nodes; path = vs; dropped = m.dropped; closed = m.closed; waiting = m.waiting; handed = m.handed }
+
   -- a node has one parent
   pub one_parent : (nodes : Nodes A) (v : ℕ) (p q : Option ℕ) (a b : A) → slice_get nodes v ≡ Some (p, a) → slice_get nodes v ≡ Some (q, b) → p ≡ q
   one_parent nodes v p q a b e f =
@@ -52,7 +56,7 @@ module _ {A : Type 0} where
   -- ---- dropping the innermost open node v
   module _ (m : Model A) (v : ℕ) (vs : List ℕ) (chain : Chain m (v ∷ vs)) (parents : ParentsFirst m.nodes) where
     abbrev m₀ : Model A
-    m₀ = record { nodes = m.nodes; path = v ∷ vs; dropped = m.dropped; closed = m.closed; waiting = m.waiting; handed = m.handed }
+    m₀ = with_path m (v ∷ vs)
 
     abbrev m₁ : Model A
     m₁ = dropping m v vs
