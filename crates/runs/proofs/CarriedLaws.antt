@@ -1,11 +1,9 @@
 -- A state that carries sets of rule nodes does what the same state with labels does.
 use Rattle.std.proofs.Common.{◌≡◌, ℕ, suc, zero, ◌<◌, ◌↔◌, List, [], ◌∷◌, ◌++◌, length, take, drop, Some, Option, sym, refl, ap, ap₂, ◌∙◌, subst, arith}
 use Rattle.std.specs.List.{slice_get}
-use Rattle.rules.specs.declared.node.Edge.{Edge}
-use Rattle.rules.specs.declared.node.Edge.TheVariants as edge
 use Rattle.rules.specs.declared.node.RuleNode.{RuleNode}
 use Rattle.rules.specs.Rule.{parent_of, edge_of}
-use Rattle.rules.specs.Embedding.{Nodes, Below, direct, deeper, Across, Occurs}
+use Rattle.rules.specs.Embedding.{Nodes, Occurs}
 use Rattle.runs.proofs.FitLaws.{across_moves}
 use Rattle.runs.specs.declared.call.Call.{Call}
 use Rattle.runs.specs.declared.call.Call.TheVariants.{Open, Close, Drop}

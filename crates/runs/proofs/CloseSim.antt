@@ -141,9 +141,6 @@ module _ (rule : List RuleNode) (m : SetModel) (v : ℕ) (vs cs ws cs' ws' : Lis
         )
 
 module _ (rule : List RuleNode) (ordered : Ordered rule) (some : 0 < length rule) (m : SetModel) where
-  abbrev with_path : List ℕ → SetModel
-  with_path m vs = moved m vs m.closed m.waiting
-
   occurs : (v : ℕ) → FitsAt rule m 0 v → OccursAt rule Has m v
   occurs v f = fits_embeds rule ordered some (KeptChild m) (MeetsAt Has m) v f
 

@@ -1,7 +1,7 @@
 -- A test of whether a rule occurs at a node of a model, and what accepted calls do by it. Assumes nothing.
-use Rattle.std.proofs.Common.{◌≡◌, ℕ, zero, suc, ◌+◌, ◌-◌, ◌<◌, ◌≤◌, Bool, true, false, cond, not, ◌&&◌, ◌||◌, ◌==◌, ltb, leb, ◌⊎◌, List, [], ◌∷◌, length, Some, None, Option, Decides, sym, refl, ap, ◌∙◌, subst, subst₂, ⊎_elim, arith, eq-eqb, ne_eqb, leb-true, le-leb}
+use Rattle.std.proofs.Common.{◌≡◌, ℕ, zero, suc, ◌+◌, ◌-◌, ◌<◌, ◌≤◌, Bool, true, false, cond, not, ◌&&◌, ◌||◌, ◌==◌, ltb, leb, ◌⊎◌, List, [], ◌∷◌, length, Some, None, Option, Decides, sym, refl, ap, ◌∙◌, subst, subst₂, ⊎_elim, arith, leb-true, le-leb}
 use Rattle.std.specs.List.{slice_get, AllByRecursion}
-use Rattle.std.proofs.lemmas.Bool.{false≢true, and_parts, cases_lt, cond-true, cond-false, ltb-true}
+use Rattle.std.proofs.lemmas.Bool.{false≢true, and_parts, cases_lt, ltb-true}
 use Rattle.std.proofs.lemmas.Bool.Decides.{Decides-like, Decides-not, Decides-and, Decides-or, Decides-eqb, Decides-below_and, Decides-below_or, not_from_Decides}
 use Rattle.std.proofs.lemmas.Option.{slice_get_within}
 use Rattle.rules.specs.declared.node.Edge.{Edge}

@@ -1,7 +1,6 @@
 -- A taking of the run is one of the reference model.
-use Rattle.std.proofs.Common.{◌≡◌, ℕ, min, List, [], ◌∷◌, ◌++◌, length, take, drop, sym, ap, ◌∙◌, subst, ⊎_elim, arith}
+use Rattle.std.proofs.Common.{◌≡◌, ℕ, min, List, ◌++◌, length, take, drop, sym, ap, ◌∙◌, subst, arith}
 use Rattle.std.proofs.lemmas.List.{take_min, drop_min}
-use Rattle.std.proofs.lemmas.Bool.{cases_lt}
 use Rattle.rules.specs.declared.node.RuleNode.{RuleNode}
 use Rattle.runs.specs.declared.call.Call.TheVariants as call
 use Rattle.runs.specs.Bits.{Has}
@@ -9,7 +8,7 @@ use Rattle.runs.specs.Words.{Words}
 use Rattle.runs.specs.LevelCalls.{Takes}
 use Rattle.runs.specs.Answers.{taken}
 use Rattle.runs.specs.Model.{taking, Does}
-use Rattle.runs.specs.Stands.{SetModel, Chain, Shows}
+use Rattle.runs.specs.Stands.{SetModel, Shows}
 use Rattle.runs.proofs.LevelLaws.{levels_keep}
 
 -- as many as there are, or n
