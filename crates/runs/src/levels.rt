@@ -173,11 +173,9 @@ impl Levels {
         ensures { Merges found below self.old self.new }
     {
         let at = self.depth - 1;
-        if at == 0 {
-            self.depth = at;
-            return;
+        if at > 0 {
+            self.open[at - 1] = self.open[at - 1].join(found, below);
         }
-        self.open[at - 1] = self.open[at - 1].join(found, below);
         self.depth = at;
     }
 
