@@ -6,22 +6,26 @@ use runs::journal::replay;
 use std::io;
 
 // The longest journal of an example.
-const CALLS: usize = 12;
+const CALLS: usize = 11;
 
 fn name(letter: u8) -> Name {
     Name::try_from(&[letter][..]).unwrap_or(Name::empty())
 }
 
-// Replays the calls, and prints each answer and the numbers that were handed out.
-fn show_journal(rt: &impl Print, text: &str, calls: &[Call<Name>]) -> io::Result<()> {
+// Replays the calls, the numbers into the list, and prints each answer and the numbers that were handed out.
+fn show_journal(
+    rt: &impl Print,
+    text: &str,
+    calls: &[Call<Name>],
+    numbers: &mut [u32],
+) -> io::Result<()> {
     let mut rule = Rule::new();
     let mut names = [Name::empty(); NODE_LIMIT];
     if let Err(refusal) = rule.read_text(text.as_bytes(), &mut names) {
         return println!(rt; "{text}: refused {refusal}");
     }
     let mut answers = [Answer::Dropped; CALLS];
-    let mut numbers = [0; 4];
-    match replay(&rule, &names, calls, &mut answers, &mut numbers) {
+    match replay(&rule, &names, calls, &mut answers, numbers) {
         Ok(outcome) => {
             for answer in &answers[..calls.len()] {
                 println!(rt; "{text}: {answer:?}")?;
@@ -49,7 +53,9 @@ pub fn show(rt: &impl Print) -> io::Result<()> {
         Call::Close,
         Call::Take(5),
     ];
-    show_journal(rt, "//a[b]", &calls)?;
-    show_journal(rt, "//a[.//b]", &calls)?;
-    show_journal(rt, "//*", &calls)
+    let mut numbers = [0; 4];
+    show_journal(rt, "//a[b]", &calls, &mut numbers)?;
+    show_journal(rt, "//a[.//b]", &calls, &mut numbers)?;
+    show_journal(rt, "//*", &calls, &mut numbers)?;
+    show_journal(rt, "//*", &calls, &mut numbers[..1])
 }

@@ -13,3 +13,4 @@ pub mod Shortages
 pub mod Journal
 pub mod MadeCall
 pub mod Examples
+pub mod Laws

@@ -1,5 +1,12 @@
-//! Examples of trees, as the reference model judges them.
+//! What is proved of the reference model.
 ghost use Rattle.runs.specs.Examples.{WorkedTrees};
+ghost use Rattle.runs.specs.Laws.{ReachedSelected};
+
+/// After any calls whatever, the numbers handed out, and then those that wait, are the selected closed nodes. So a run of which a
+/// program makes the calls itself, with another list of labels for each opening if it likes, is told as a journal is.
+pub fn reached_states_are_selected()
+    ensures { ReachedSelected }
+{}
 
 /// The examples come out of the reference model as they should.
 pub fn examples_are_selected()
