@@ -1,5 +1,5 @@
 //! The step of a closing that looks at the edges of a rule.
-ghost use Rattle.std.specs.Prelude.{ℕ, ◌↔◌, Decides};
+ghost use Rattle.std.specs.Prelude.{◌≡◌, ℕ, ◌↔◌};
 ghost use Rattle.rules.specs.RuleNodes.{rule_nodes};
 ghost use Rattle.runs.specs.Bits.{Has};
 ghost use Rattle.runs.specs.Edges.{asked, EdgesMet};
@@ -8,13 +8,13 @@ use crate::node_set::NodeSet;
 use rules::node::Edge;
 use rules::rule::Rule;
 
-// Whether the rule node is in the set that an edge of this kind leads into.
-fn edge_met(edge: Edge, number: usize, child: NodeSet, below: NodeSet) -> bool
-    ensures { Decides result (Has (asked edge child below) number) }
+// The set that an edge of this kind has to lead into.
+fn set_asked(edge: Edge, child: NodeSet, below: NodeSet) -> NodeSet
+    ensures { result ≡ asked edge child below }
 {
     match edge {
-        Edge::Child => child.contains(number),
-        Edge::Descendant => below.contains(number),
+        Edge::Child => child,
+        Edge::Descendant => below,
     }
 }
 
@@ -26,8 +26,9 @@ pub fn edges_met(rule: &Rule, child: NodeSet, below: NodeSet) -> NodeSet
     let nodes = rule.nodes();
     let mut unmet = NodeSet::empty();
     for (y, node) in nodes.iter().enumerate() {
+        let asked = set_asked(node.edge, child, below);
         // the root has no edge
-        if y > 0 && !edge_met(node.edge, y, child, below) {
+        if y > 0 && !asked.contains(y) {
             unmet.insert(node.parent);
         }
     }
