@@ -1,7 +1,7 @@
 -- The searches for the rule nodes that a label meets, step by step: u is the set before the number n is tried, and v after it.
-use Rattle.std.proofs.Common.{◌≡◌, ℕ, ◌+◌, ◌<◌, ◌≤◌, ◌⊎◌, ◌↔◌, Bool, true, false, List, length, get_or, ap, ◌∙◌, sym, inl, inr, ⊎_elim, arith}
+use Rattle.std.proofs.Common.{◌≡◌, ℕ, ◌+◌, ◌<◌, ◌≤◌, ◌⊎◌, ◌↔◌, Bool, true, false, List, length, get_or, take, min, ap, ◌∙◌, sym, inl, inr, ⊎_elim, arith}
 use Rattle.std.proofs.lemmas.Bool.{cases_lt, both_ways}
-use Rattle.std.proofs.lemmas.List.{get_or_default}
+use Rattle.std.proofs.lemmas.List.{get_or_default, get_or-take, length-take-le}
 use Rattle.std.proofs.lemmas.Option.{slice_get-get_or, slice_get_within, get_or_from_slice_get}
 use Rattle.rules.specs.declared.node.RuleNode.{RuleNode}
 use Rattle.rules.specs.Rule.{any_of}
@@ -69,9 +69,6 @@ module _ {T : Type 0} (same : T → T → Bool) (ns : List RuleNode) (ls : List 
         ),
   )
 
-  pub named_past : (n u : ℕ) → (Has u x ↔ Named same ns ls t n x) → length ns ≤ n → Has u x ↔ Named same ns ls t (n + 1) x
-  named_past n u seen past = still n u seen (λ l _. let z : ⊥ = omega arith in absurd z)
-
   module _ (w : T) (b : Bool) (n u : ℕ) (seen : Has u x ↔ Named same ns ls t n x) (read : w ≡ get_or ls n w) (tried : b ≡ same t w)
       (within : n < length ls) where
     found : same t (get_or ls n t) ≡ b
@@ -96,24 +93,31 @@ module _ {T : Type 0} (same : T → T → Bool) (ns : List RuleNode) (ls : List 
           h.1),
     )
 
-  -- once all labels are tried
-  pub named_all : (n u : ℕ) → (Has u x ↔ Named same ns ls t n x) → length ls ≤ n → n ≤ length ls
+-- once all labels are tried, as many as there are rule nodes
+module _ {T : Type 0} (same : T → T → Bool) (ns : List RuleNode) (ls : List T) (t : T) (x : ℕ) where
+  pub named_all : (k n u : ℕ) → (Has u x ↔ Named same ns (take k ls) t n x) → k ≡ min (length ns) (length ls) → length (take k ls) ≤ n → n ≤ length (take k ls)
       → Has u x ↔ ((x < length ns) × Meets same ns ls t x)
   unfolding Named
-  named_all n u seen all within = (
-    λ h. let k = seen.0 h in (
-      k.0,
-      ⊎_elim (λ a. inl a) (λ b. let l : x < n = b.0 in inr (get_or ls x t, slice_get-get_or ls x t (omega arith), b.1)) k.1,
-    ),
-    λ h. seen.1 (
-      h.0,
-      ⊎_elim
-          (λ a. inl a)
-          (λ b. let l = slice_get_within ls x b.0 b.1 in inr (omega arith, ap (same t) (get_or_from_slice_get ls x b.0 t b.1) ∙ b.2))
-          h.1,
-    ),
-  )
+  named_all k n u seen few all within =
+      let cut : length (take k ls) ≡ k = length-take-le k ls (omega arith) in
+      let end : n ≡ k = omega arith in
+      let front : (y : ℕ) → y < n → same t (get_or (take k ls) y t) ≡ same t (get_or ls y t) = λ y l. ap (same t) (get_or-take k ls y t (omega arith)) in (
+        λ h. let s = seen.0 h in (
+          s.0,
+          ⊎_elim (λ a. inl a) (λ b. let l : x < n = b.0 in inr (get_or ls x t, slice_get-get_or ls x t (omega arith), sym (front x l) ∙ b.1)) s.1,
+        ),
+        λ h. let m : x < length ns = h.0 in
+            seen.1 (
+              m,
+              ⊎_elim
+                  (λ a. inl a)
+                  (λ b. let l = slice_get_within ls x b.0 b.1 in
+                  let low : x < n = omega arith in
+                  inr (low, front x low ∙ ap (same t) (get_or_from_slice_get ls x b.0 t b.1) ∙ b.2))
+                  h.1,
+            ),
+      )
 
 pub ruleset any_nodes = (any_none, any_yes, any_no, few_nodes)
 
-pub ruleset named_nodes = (named_none, named_past, named_no, named_yes, named_all, few_nodes)
+pub ruleset named_nodes = (named_none, named_no, named_yes, named_all, few_nodes, length-take-le)

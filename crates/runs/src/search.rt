@@ -28,10 +28,10 @@ fn any_nodes(rule: &Rule) -> NodeSet
 pub fn nodes_met<L: LabelKind>(rule: &Rule, labels: &[L], label: &L) -> NodeSet
     ensures { (x : ℕ) → Has result x ↔ ((x < length (rule_nodes rule.now)) × Meets L.eq (rule_nodes rule.now) labels.now label.now x) }
 {
-    let count = rule.nodes().len();
+    let count = rule.nodes().len().min(labels.len());
     let mut met = any_nodes(rule);
-    for (x, test) in labels.iter().enumerate() {
-        if x < count && label == test {
+    for (x, test) in labels[..count].iter().enumerate() {
+        if label == test {
             met.insert(x);
         }
     }
