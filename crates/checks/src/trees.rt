@@ -5,11 +5,11 @@ use runs::call::{Answer, Call};
 use runs::journal::replay;
 use std::test::Fail;
 
-// The calls of an example, at most.
+// How many calls an example has at most.
 const CALLS: usize = 32;
 
-// Numbers that no node of an example has.
-const NONE: u32 = 99;
+// A number that no node of an example has.
+const UNUSED: u32 = 99;
 
 #[derive(Drop)]
 struct Calls {
@@ -55,13 +55,13 @@ fn calls_of(tree: &[u8]) -> Calls {
     calls
 }
 
-// Replays the calls with the rule of the text, then takes what waits; the numbers stand in front, the others are `NONE`. None
+// Replays the calls with the rule of the text, then takes what waits; the numbers stand in front, the others are `UNUSED`. `None`
 // where the text is refused or the calls are not made to the end.
 fn numbers(text: &[u8], calls: &[Call<Name>]) -> Option<[u32; 4]> {
     let mut rule = Rule::new();
     let mut names = [Name::empty(); NODE_LIMIT];
     let mut answers = [Answer::Dropped; CALLS];
-    let mut numbers = [NONE; 4];
+    let mut numbers = [UNUSED; 4];
     rule.read_text(text, &mut names).ok()?;
     let Ok(mut outcome) = replay(&rule, &names, calls, &mut answers, &mut []) else {
         return None;
@@ -76,26 +76,35 @@ fn selected(text: &[u8], tree: &[u8]) -> Option<[u32; 4]> {
 
 #[test]
 fn trees(rt: HostRuntime) {
-    assert_eq!(rt; selected(b"//a[a]", b"a(a(a))"), Some([1, 0, NONE, NONE]));
+    assert_eq!(rt;
+        selected(b"//a[a]", b"a(a(a))"),
+        Some([1, 0, UNUSED, UNUSED])
+    );
     assert_eq!(rt;
         selected(b"//a[b][b]", b"a(b)"),
-        Some([0, NONE, NONE, NONE])
+        Some([0, UNUSED, UNUSED, UNUSED])
     );
-    assert_eq!(rt; selected(b"//a[b[c][d]]", b"a(b(c) b(d))"), Some([NONE; 4]));
+    assert_eq!(rt;
+        selected(b"//a[b[c][d]]", b"a(b(c) b(d))"),
+        Some([UNUSED; 4])
+    );
     assert_eq!(rt;
         selected(b"//a[b/c][b/d]", b"a(b(c) b(d))"),
-        Some([0, NONE, NONE, NONE])
+        Some([0, UNUSED, UNUSED, UNUSED])
     );
-    assert_eq!(rt; selected(b"//a[c]", b"a(b(c))"), Some([NONE; 4]));
+    assert_eq!(rt; selected(b"//a[c]", b"a(b(c))"), Some([UNUSED; 4]));
     assert_eq!(rt;
         selected(b"//a[.//c]", b"a(b(c))"),
-        Some([0, NONE, NONE, NONE])
+        Some([0, UNUSED, UNUSED, UNUSED])
     );
-    assert_eq!(rt; selected(b"//a[.//a]", b"a"), Some([NONE; 4]));
-    assert_eq!(rt; selected(b"//*[*]", b"a(b c(d))"), Some([2, 0, NONE, NONE]));
+    assert_eq!(rt; selected(b"//a[.//a]", b"a"), Some([UNUSED; 4]));
+    assert_eq!(rt;
+        selected(b"//*[*]", b"a(b c(d))"),
+        Some([2, 0, UNUSED, UNUSED])
+    );
     assert_eq!(rt;
         selected(b"//*[.//d]", b"a(b c(d))"),
-        Some([2, 0, NONE, NONE])
+        Some([2, 0, UNUSED, UNUSED])
     );
     assert_eq!(rt; selected(b"//*", b"a(b c) d"), Some([1, 2, 0, 3]));
 }
@@ -106,7 +115,7 @@ fn dropped_nodes(rt: HostRuntime) {
     let a = name(b'a');
     let b = name(b'b');
     let calls = [Call::Open(a), Call::Open(b), Call::Drop, Call::Close];
-    assert_eq!(rt; numbers(b"//a[b]", &calls), Some([NONE; 4]));
+    assert_eq!(rt; numbers(b"//a[b]", &calls), Some([UNUSED; 4]));
     let calls = [
         Call::Open(a),
         Call::Open(a),
@@ -116,9 +125,12 @@ fn dropped_nodes(rt: HostRuntime) {
         Call::Drop,
         Call::Close,
     ];
-    assert_eq!(rt; numbers(b"//a[b]", &calls), Some([1, NONE, NONE, NONE]));
+    assert_eq!(rt;
+        numbers(b"//a[b]", &calls),
+        Some([1, UNUSED, UNUSED, UNUSED])
+    );
     assert_eq!(rt;
         numbers(b"//a[.//b]", &calls[..5]),
-        Some([1, NONE, NONE, NONE])
+        Some([1, UNUSED, UNUSED, UNUSED])
     );
 }

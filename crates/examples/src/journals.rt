@@ -5,14 +5,15 @@ use runs::call::{Answer, Call};
 use runs::journal::replay;
 use std::io;
 
-// The longest journal of an example.
+// How many calls the journal of an example has at most.
 const CALLS: usize = 11;
 
 fn name(letter: u8) -> Name {
     Name::try_from(&[letter][..]).unwrap_or(Name::empty())
 }
 
-// Replays the calls, the numbers into the list, and prints each answer and the numbers that were handed out.
+// Replays the calls, with the numbers into the list, and prints each answer and the numbers handed out, or why it did not
+// come to that.
 fn show_journal(
     rt: &impl Print,
     text: &str,

@@ -95,16 +95,18 @@ module _ {T : Type 0} (same : T → T → Bool) (ns : List RuleNode) (ls : List 
 
 -- once all labels are tried, as many as there are rule nodes
 module _ {T : Type 0} (same : T → T → Bool) (ns : List RuleNode) (ls : List T) (t : T) (x : ℕ) where
+  front : (k y : ℕ) → y < k → same t (get_or (take k ls) y t) ≡ same t (get_or ls y t)
+  front k y l = ap (same t) (get_or-take k ls y t l)
+
   pub named_all : (k n u : ℕ) → (Has u x ↔ Named same ns (take k ls) t n x) → k ≡ min (length ns) (length ls) → length (take k ls) ≤ n → n ≤ length (take k ls)
       → Has u x ↔ ((x < length ns) × Meets same ns ls t x)
   unfolding Named
   named_all k n u seen few all within =
       let cut : length (take k ls) ≡ k = length-take-le k ls (omega arith) in
-      let end : n ≡ k = omega arith in
-      let front : (y : ℕ) → y < n → same t (get_or (take k ls) y t) ≡ same t (get_or ls y t) = λ y l. ap (same t) (get_or-take k ls y t (omega arith)) in (
+      let end : n ≡ k = omega arith in (
         λ h. let s = seen.0 h in (
           s.0,
-          ⊎_elim (λ a. inl a) (λ b. let l : x < n = b.0 in inr (get_or ls x t, slice_get-get_or ls x t (omega arith), sym (front x l) ∙ b.1)) s.1,
+          ⊎_elim (λ a. inl a) (λ b. let l : x < n = b.0 in inr (get_or ls x t, slice_get-get_or ls x t (omega arith), sym (front k x (omega arith)) ∙ b.1)) s.1,
         ),
         λ h. let m : x < length ns = h.0 in
             seen.1 (
@@ -113,7 +115,7 @@ module _ {T : Type 0} (same : T → T → Bool) (ns : List RuleNode) (ls : List 
                   (λ a. inl a)
                   (λ b. let l = slice_get_within ls x b.0 b.1 in
                   let low : x < n = omega arith in
-                  inr (low, front x low ∙ ap (same t) (get_or_from_slice_get ls x b.0 t b.1) ∙ b.2))
+                  inr (low, front k x (omega arith) ∙ ap (same t) (get_or_from_slice_get ls x b.0 t b.1) ∙ b.2))
                   h.1,
             ),
       )

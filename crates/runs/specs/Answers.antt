@@ -21,7 +21,7 @@ told Dropped = dropped
 told (Taken n) = taken n
 told (Refused k) = refused (number k)
 
--- what a call of a run tells that may be refused
+-- what a call that may be refused tells, by its result
 abbrev pub told_by : {T : Type 0} → (T → Told) → Result T Refusal → Told
 told_by tells (Ok x) = tells x
 told_by tells (Err k) = refused (number k)

@@ -10,6 +10,6 @@ bit w x = w / 2 ^ x % 2
 abbrev pub Has : ℕ → ℕ → Type 0
 Has w x = bit w x ≡ 1
 
--- w has the rule nodes whose tests are met
+-- w is the set of exactly those rule nodes x of which meets x holds
 abbrev pub SetOf : List RuleNode → (ℕ → Type 0) → ℕ → Type 0
 SetOf rule meets w = (x : ℕ) → Has w x ↔ ((x < length rule) × meets x)

@@ -32,22 +32,23 @@ pub record MovesOpen (rule : List RuleNode) (s : Levels) (meets : ℕ → Type 0
   pub members : SetOf rule meets set
   pub moves : Moves rule s (Open set) t s'
 
--- a taking into the list xs, which is ys after it: its front is filled, and its rest as before
+-- a taking into the list xs, which is ys after it: its front is filled, and its rest is as before
 pub record MovesTake (rule : List RuleNode) (s : Levels) (xs : List ℕ) (n : ℕ) (ys : List ℕ) (s' : Levels) : Type 0 where
   pub moves : Moves rule s (Take (length xs)) (taken n) s'
   pub fits : n ≤ length xs
   pub list : (m : SetModel) → Stands rule s m → ys ≡ take n m.waiting ++ drop n xs
 
--- the same three of a run, which keeps its rule
+-- a call of a run, which keeps its rule
 pub record Steps (run : Run) (c : Call ℕ) (t : Told) (run' : Run) : Type 0 where
   pub rule : run'.rule.now ≡ run.rule.now
   pub moves : Moves (nodes_of run) run.state c t run'.state
 
--- label is opened with this list of labels
+-- the opening of a node with this label, lent this list of labels; the run keeps its rule
 pub record Opening {L : Type 0} (same : L → L → Bool) (run : Run) (labels : List L) (label : L) (t : Told) (run' : Run) : Type 0 where
   pub rule : run'.rule.now ≡ run.rule.now
   pub moves : MovesOpen (nodes_of run) run.state (Meets same (nodes_of run) labels label) t run'.state
 
+-- a taking of a run into the list xs, which is ys after it; the run keeps its rule
 pub record Taking (run : Run) (xs : List ℕ) (n : ℕ) (ys : List ℕ) (run' : Run) : Type 0 where
   pub rule : run'.rule.now ≡ run.rule.now
   pub moves : MovesTake (nodes_of run) run.state xs n ys run'.state

@@ -14,7 +14,8 @@ use Rattle.runs.specs.Answers.{Told, told}
 use Rattle.runs.specs.Model.{Model, empty, Plays, Selected}
 use Rattle.runs.specs.Stands.{SetModel, Stands}
 
--- the nodes carry labels, and the same nodes the sets of the rule nodes whose tests these labels meet
+-- The same nodes twice: in the first list they carry labels, in the second the sets of the rule nodes whose tests those labels
+-- meet.
 abbrev pub SetsOf : {L : Type 0} → List RuleNode → (L → ℕ → Type 0) → Nodes L → Nodes ℕ → Type 0
 SetsOf rule meets [] [] = Unit {0}
 SetsOf rule meets [] (s ∷ ss) = ⊥
@@ -46,9 +47,9 @@ module _ {L : Type 0} (same : L → L → Bool) (rule : Rule) (labels : List L) 
     pub stands : Stands (rule_nodes rule) run.state tree
     pub carried : Carried (rule_nodes rule) meets m tree
 
-  -- What the reference model, fed the calls alone, says of the first k of them. The answers are the first k of ts, the numbers
-  -- handed out by then are followed by those that were handed out later, and those numbers and the waiting ones are what is
-  -- selected. The run after k calls is the one that a replay of these k hands back.
+  -- What the reference model, fed the calls alone, says of the first k of them, whose answers are the first k of ts. The numbers
+  -- that it has handed out by then stand at the front of those handed out in the end. With those that wait by then behind them
+  -- they are what is selected after k calls.
   pub record After (calls : List (Call L)) (ts : List Told) (m : Model L) (k : ℕ) : Type 0 where
     pub state : Model L
     pub plays : Plays (rule_nodes rule) meets empty (take k calls) (take k ts) state

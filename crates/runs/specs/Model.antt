@@ -8,8 +8,8 @@ use Rattle.runs.specs.Limits.{depth_limit, waiting_limit, openings_limit}
 use Rattle.runs.specs.Picks.{In, Once, Picks}
 use Rattle.runs.specs.Answers.{Told, opened, closed, dropped, taken, refused}
 
--- The nodes in order of opening, each with what it carries: its label, or at a run's own calls the set of rule nodes whose
--- tests its label meets. path: the open nodes, innermost first; dropped: the nodes given up, the last one first; closed: the
+-- The nodes in order of opening, each with its parent, which a root lacks, and what it carries: its label, or at a run's own
+-- calls the set of rule nodes whose tests its label meets. path: the open nodes, innermost first; dropped: the nodes given up, the last one first; closed: the
 -- closed nodes in closing order; waiting: the waiting numbers, oldest first; handed: the numbers that takings moved, in the
 -- order moved.
 pub record Model (A : Type 0) : Type 0 where

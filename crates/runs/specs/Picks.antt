@@ -1,4 +1,5 @@
--- Which numbers of a list are picked, and lists with no number twice. By recursion, as the proofs go through a list.
+-- Which numbers of a list are picked, and lists with no number twice. In and Once go by recursion, as the proofs go
+-- through a list.
 use Rattle.std.specs.Prelude.{◌≡◌, ℕ, ◌⊎◌, List, [], ◌∷◌}
 
 -- v is one of the numbers

@@ -53,8 +53,8 @@ abbrev pub Chain : {A : Type 0} → Model A → List ℕ → Type 0
 Chain m [] = Unit {0}
 Chain {A} m (v ∷ vs) = ((a : A) × (slice_get m.nodes v ≡ Some (innermost vs, a))) × (In v m.dropped → ⊥) × Chain m vs
 
--- The state s, as lists, stands for the model m. It keeps neither the closed nodes nor the numbers handed out, so that m may
--- have any.
+-- The state s, as lists, stands for the model m. Each parent is numbered below its child, and what was dropped is a node. The
+-- state keeps neither the closed nodes nor the numbers handed out, so that m may have any.
 pub record Shows (rule : List RuleNode) (s : Words) (m : SetModel) : Type 0 where
   pub opened : s.opened ≡ length m.nodes
   pub waiting : s.waiting ≡ m.waiting

@@ -59,7 +59,7 @@ impl NodeSet {
         }
     }
 
-    /// What is in one of them.
+    /// What is in at least one of them.
     #[tactic(auto, using(crate::proofs::BitLaws::union_told, crate::proofs::BitLaws::or_fits))]
     pub fn union(self, other: NodeSet) -> NodeSet
         ensures word { result ≡ bit_or self other }

@@ -44,8 +44,8 @@ impl<'r> Run<'r> {
         }
     }
 
-    /// Opens a node under the innermost open one, and gives its number. `labels` has the labels of the tests by the numbers
-    /// of the rule nodes.
+    /// Opens a node, as a child of the innermost open one or as a root where none is open, and gives its number. `labels` has
+    /// the labels of the tests by the numbers of the rule nodes.
     #[tactic(auto, using(crate::proofs::RunLaws::open_moves, crate::proofs::RunLaws::open_real, crate::proofs::RunLaws::run_kept))]
     pub fn open<L: LabelKind>(&mut self, labels: &[L], label: &L) -> Result<u32, Refusal>
         ensures step { Opening L.eq self.old labels.now label.now (told_by opened result) self.new }
