@@ -74,7 +74,7 @@ module _ {L : Type 0} (same : L → L → Bool) (rule : Rule) (labels : List L) 
   -- a call that moves no number
   module _ (m : Model L) (run run' : Run) (at : StandsAt same rule labels run m) (rules : run'.rule.now ≡ run.rule.now) (c : Call L) (a : Answer) (out : List ℕ) where
     abbrev t : SetModel
-    t = at.tree
+    t = at.sets
 
     here : Stands (nodes_of run) run.state t
     here = let P : Rule → Type 0 = λ r. Stands (rule_nodes r) run.state t in subst P (sym at.rule_is) at.stands
@@ -86,7 +86,7 @@ module _ {L : Type 0} (same : L → L → Bool) (rule : Rule) (labels : List L) 
     by_rule k r t' d = let P : Rule → Type 0 = λ q. Does (rule_nodes q) Has t k r t' in subst P at.rule_is d
 
     stands : (t' : SetModel) → Stands (nodes_of run) run'.state t' → (m' : Model L) → Carried nodes tests m' t' → StandsAt same rule labels run' m'
-    stands t' s m' k = record { rule_is = rules ∙ at.rule_is; tree = t'; stands = there t' s; carried = k }
+    stands t' s m' k = record { rule_is = rules ∙ at.rule_is; sets = t'; stands = there t' s; carried = k }
 
     pub unmoved : (k : Call ℕ) (r : Told) → Moves (nodes_of run) run.state k r run'.state
         → ((t' : SetModel) → Does nodes Has t k r t' → (m' : Model L) × Does nodes tests m c r m' × Carried nodes tests m' t')
@@ -131,7 +131,7 @@ module _ {L : Type 0} (same : L → L → Bool) (rule : Rule) (labels : List L) 
         let Q : Rule → Type 0 = λ q. SetOf (rule_nodes q) (Meets same (rule_nodes q) labels l) set.set in subst Q at.rule_is set.members in
         subst P (sym is)
         (unmoved m run run' at o.rule (Open l) a out (Open set.set) (told_by opened r) set.moves
-        (λ t' d. lift_open nodes tests m at.tree at.carried l set.set b d) (λ m' d. open_hands m l m' (told_by opened r) d) e (untaken_open r))
+        (λ t' d. lift_open nodes tests m at.sets at.carried l set.set b d) (λ m' d. open_hands m l m' (told_by opened r) d) e (untaken_open r))
 
     pub made_close : (r : Result Bool Refusal) → c ≡ Close → Steps run Close (told_by closed r) run' → told a ≡ told_by closed r
         → Made same rule labels m c a out out run'
@@ -139,7 +139,7 @@ module _ {L : Type 0} (same : L → L → Bool) (rule : Rule) (labels : List L) 
         let P : Call L → Type 0 = λ k. Made same rule labels m k a out out run' in
         subst P (sym is)
         (unmoved m run run' at o.rule Close a out Close (told_by closed r) o.moves
-        (λ t' d. lift_close nodes tests m at.tree at.carried d) (λ m' d. close_hands m m' (told_by closed r) d) e (untaken_close r))
+        (λ t' d. lift_close nodes tests m at.sets at.carried d) (λ m' d. close_hands m m' (told_by closed r) d) e (untaken_close r))
 
     pub made_drop : (r : Result (Unit {0}) Refusal) → c ≡ Drop → Steps run Drop (told_by (λ _. dropped) r) run' → told a ≡ told_by (λ _. dropped) r
         → Made same rule labels m c a out out run'
@@ -147,7 +147,7 @@ module _ {L : Type 0} (same : L → L → Bool) (rule : Rule) (labels : List L) 
         let P : Call L → Type 0 = λ k. Made same rule labels m k a out out run' in
         subst P (sym is)
         (unmoved m run run' at o.rule Drop a out Drop (told_by (λ _. dropped) r) o.moves
-        (λ t' d. lift_drop nodes tests m at.tree at.carried d) (λ m' d. drop_hands m m' (told_by (λ _. dropped) r) d) e (untaken_drop r))
+        (λ t' d. lift_drop nodes tests m at.sets at.carried d) (λ m' d. drop_hands m m' (told_by (λ _. dropped) r) d) e (untaken_drop r))
 
     -- a taking of as many numbers as wait and are asked for, at the front of the list
     pub made_take : (size count n : ℕ) (taken_list list : List ℕ) → c ≡ Take size → a ≡ Taken n
@@ -155,20 +155,20 @@ module _ {L : Type 0} (same : L → L → Bool) (rule : Rule) (labels : List L) 
         → Taking run (take count out) n taken_list run' → list ≡ taken_list ++ drop count out
         → Made same rule labels m c a out list run'
     made_take size count n taken_list list is answer waits fits o whole =
-        let ws : List ℕ = at.tree.waiting in
-        let s : Stands (nodes_of run) run.state at.tree = here m run run' at o.rule c a out in
-        let few : count ≡ min (length at.tree.waiting) size = waits at.tree s in
+        let ws : List ℕ = at.sets.waiting in
+        let s : Stands (nodes_of run) run.state at.sets = here m run run' at o.rule c a out in
+        let few : count ≡ min (length at.sets.waiting) size = waits at.sets s in
         let len : length (take count out) ≡ count = length-take-le count out fits in
-        let next = o.moves.moves.model at.tree s in
-        let d = took (nodes_of run) at.tree (length (take count out)) next.1 in
-        let all : n ≡ min (length at.tree.waiting) (length (take count out)) = taken_inj n _ d.0 in
+        let next = o.moves.moves.model at.sets s in
+        let d = took (nodes_of run) at.sets (length (take count out)) next.1 in
+        let all : n ≡ min (length at.sets.waiting) (length (take count out)) = taken_inj n _ d.0 in
         let n_is : n ≡ count = omega arith in
         let same_ws = taken_min ws size count few in
-        let same_wait : length at.tree.waiting ≡ length m.waiting = ap length at.carried.waiting in
-        let t' : SetModel = taking at.tree size in
-        let tree_is : next.0 ≡ taking at.tree size =
-        d.1 ∙ ap (λ (k : ℕ). taking at.tree k) len
-        ∙ ap₂ (λ (hs us : List ℕ). record { nodes = at.tree.nodes; path = at.tree.path; dropped = at.tree.dropped; closed = at.tree.closed; waiting = us; handed = at.tree.handed ++ hs })
+        let same_wait : length at.sets.waiting ≡ length m.waiting = ap length at.carried.waiting in
+        let t' : SetModel = taking at.sets size in
+        let tree_is : next.0 ≡ taking at.sets size =
+        d.1 ∙ ap (λ (k : ℕ). taking at.sets k) len
+        ∙ ap₂ (λ (hs us : List ℕ). record { nodes = at.sets.nodes; path = at.sets.path; dropped = at.sets.dropped; closed = at.sets.closed; waiting = us; handed = at.sets.handed ++ hs })
         same_ws.0 same_ws.1 in
         let hands : List ℕ = take size m.waiting in
         let is_hands : take n ws ≡ take size m.waiting = ap (λ (k : ℕ). take k ws) n_is ∙ same_ws.0 ∙ ap (take size) at.carried.waiting in
@@ -182,9 +182,9 @@ module _ {L : Type 0} (same : L → L → Bool) (rule : Rule) (labels : List L) 
           does = subst P (sym is) (subst Q (sym told_is) (Does.takes size));
           stands = record {
             rule_is = o.rule ∙ at.rule_is;
-            tree = taking at.tree size;
+            sets = taking at.sets size;
             stands = subst T tree_is (there m run run' at o.rule c a out next.0 next.2);
-            carried = taking_carried nodes tests m at.tree at.carried size;
+            carried = taking_carried nodes tests m at.sets at.carried size;
           };
           hands = hands;
           handed = refl;
@@ -192,7 +192,7 @@ module _ {L : Type 0} (same : L → L → Bool) (rule : Rule) (labels : List L) 
           filled = record {
             fits = omega arith;
             list = whole ∙ ap (λ (ys : List ℕ). ys ++ drop count out)
-                (o.moves.list at.tree s ∙ ap₂ (λ (hs ys : List ℕ). hs ++ ys) is_hands (drop_all n (take count out) (omega arith)) ∙ append-nil hands)
+                (o.moves.list at.sets s ∙ ap₂ (λ (hs ys : List ℕ). hs ++ ys) is_hands (drop_all n (take count out) (omega arith)) ∙ append-nil hands)
                 ∙ ap (λ (k : ℕ). hands ++ drop k out) (sym many);
           };
         }

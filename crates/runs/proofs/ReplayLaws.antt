@@ -65,7 +65,7 @@ module _ {L : Type 0} (same : L → L → Bool) (rule : Rule) (labels : List L) 
       given = [];
       state = empty;
       plays = Plays.done;
-      stands = record { rule_is = e; tree = empty; stands = s; carried = empty_carried nodes tests };
+      stands = record { rule_is = e; sets = empty; stands = s; carried = empty_carried nodes tests };
       made = refl;
       count = refl;
       fits = omega arith;

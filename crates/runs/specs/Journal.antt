@@ -43,9 +43,9 @@ module _ {L : Type 0} (same : L → L → Bool) (rule : Rule) (labels : List L) 
   -- the run is of this rule, and its state stands for a state whose nodes carry labels
   pub record StandsAt (run : Run) (m : Model L) : Type 0 where
     pub rule_is : run.rule.now ≡ rule
-    pub tree : SetModel
-    pub stands : Stands (rule_nodes rule) run.state tree
-    pub carried : Carried (rule_nodes rule) meets m tree
+    pub sets : SetModel
+    pub stands : Stands (rule_nodes rule) run.state sets
+    pub carried : Carried (rule_nodes rule) meets m sets
 
   -- What the reference model, fed the calls alone, says of the first k of them, whose answers are the first k of ts. The numbers
   -- that it has handed out by then stand at the front of those handed out in the end. With those that wait by then behind them

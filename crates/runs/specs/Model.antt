@@ -8,10 +8,10 @@ use Rattle.runs.specs.Limits.{depth_limit, waiting_limit, openings_limit}
 use Rattle.runs.specs.Picks.{In, Once, Picks}
 use Rattle.runs.specs.Answers.{Told, opened, closed, dropped, taken, refused}
 
--- The nodes in order of opening, each with its parent, which a root lacks, and what it carries: its label, or at a run's own
--- calls the set of rule nodes whose tests its label meets. path: the open nodes, innermost first; dropped: the nodes given up, the last one first; closed: the
--- closed nodes in closing order; waiting: the waiting numbers, oldest first; handed: the numbers that takings moved, in the
--- order moved.
+-- nodes: in order of opening, each with its parent, which a root lacks, and what it carries: its label, or at a run's own calls
+-- the set of rule nodes whose tests its label meets; path: the open nodes, innermost first; dropped: the nodes given up, the last
+-- one first; closed: the closed nodes in closing order; waiting: the waiting numbers, oldest first; handed: the numbers that
+-- takings moved, in the order moved.
 pub record Model (A : Type 0) : Type 0 where
   pub nodes : Nodes A
   pub path : List ℕ
@@ -23,6 +23,7 @@ pub record Model (A : Type 0) : Type 0 where
 abbrev pub empty : {A : Type 0} → Model A
 empty = record { nodes = []; path = []; dropped = []; closed = []; waiting = []; handed = [] }
 
+-- the innermost open node
 abbrev pub innermost : List ℕ → Option ℕ
 innermost [] = None
 innermost (v ∷ vs) = Some v
@@ -31,6 +32,7 @@ innermost (v ∷ vs) = Some v
 abbrev pub KeptChild : {A : Type 0} → Model A → ℕ → ℕ → Type 0
 KeptChild m u v = ChildIn m.nodes u v × (In v m.dropped → ⊥)
 
+-- v is a node, and what it carries meets the test of rule node x
 abbrev pub MeetsAt : {A : Type 0} → (A → ℕ → Type 0) → Model A → ℕ → ℕ → Type 0
 MeetsAt meets m = MeetsIn meets m.nodes
 

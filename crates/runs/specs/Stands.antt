@@ -42,6 +42,7 @@ pub record LevelStands (rule : List RuleNode) (m : SetModel) (v : ℕ) (l : Leve
   pub child : (y : ℕ) → Has l.child y ↔ ((d : ℕ) × ClosedChild m v d × FitsAt rule m y d)
   pub below : (y : ℕ) → Has l.below y ↔ ((d : ℕ) × ClosedChild m v d × FitsWithin rule m y d)
 
+-- each open node has its level
 abbrev pub LevelsStand : List RuleNode → SetModel → List ℕ → List Level → Type 0
 LevelsStand rule m [] [] = Unit {0}
 LevelsStand rule m [] (l ∷ ls) = ⊥
