@@ -51,7 +51,8 @@ pub record Takes (m : Words) (xs : List ℕ) (n : ℕ) (ys : List ℕ) (m' : Wor
   pub list : ys ≡ take n m.waiting ++ drop n xs
   pub after : m' ≡ record { stack = m.stack; opened = m.opened; waiting = drop n m.waiting }
 
--- the parts of a closing: what is found at the node l, and that l is the innermost one
+-- The parts of a closing: what is found at the node l, and that l is the innermost one. As records, so that the search for a
+-- proof takes each as one fact.
 pub record FoundAt (rule : List RuleNode) (l : Level) (w : ℕ) : Type 0 where
   pub each : Found rule l w
 

@@ -1,5 +1,5 @@
 //! The search for the rule nodes whose tests a label meets.
-ghost use Rattle.std.specs.Prelude.{◌≡◌, ℕ, ◌<◌, true, ◌↔◌, length};
+ghost use Rattle.std.specs.Prelude.{◌≡◌, true};
 ghost use Rattle.rules.specs.Rule.{any_of};
 ghost use Rattle.rules.specs.RuleNodes.{rule_nodes};
 ghost use Rattle.rules.specs.Embedding.{Meets};
