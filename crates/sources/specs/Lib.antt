@@ -2,4 +2,5 @@ pub mod Faults
 pub mod Events
 pub mod Nodes
 pub mod Table
+pub mod TableLaws
 pub mod Inner

@@ -20,6 +20,8 @@ pub trait Source {
     fn next(&mut self) -> Result<Option<Event<Self::Label>>, Self::Fault>
         ensures answer { result ≡ answer (events self.old) (ending self.old) }
         ensures others { events self.new ≡ rest (events self.old) }
-        ensures ending { ending self.new ≡ ending self.old }
-        ensures nested { ending self.old ≡ None → ClosedFrom 0 (events self.old) };
+        ensures ending { ending self.new ≡ ending self.old };
+
+    /// Where the ending is done, each opening still to come has its closing, properly nested.
+    ghost nested: { (s : Self) → ending s ≡ None → ClosedFrom 0 (events s) };
 }

@@ -2,6 +2,7 @@
 ghost use Rattle.std.specs.Prelude.{[], None};
 ghost use Rattle.sources.specs.Inner.{Shuts, SamePlace};
 ghost use Rattle.sources.specs.Table.{table_events, table_ending, Listing};
+ghost use Rattle.sources.specs.TableLaws.{table_nested};
 
 use crate::event::Event;
 use crate::record::{FolderTable, Record, TableFault};
@@ -40,6 +41,8 @@ impl<'a, L: LabelKind> Source for FolderTable<'a, L> {
     ghost events = { table_events };
 
     ghost ending = { table_ending };
+
+    ghost nested = { table_nested };
 
     fn next(&mut self) -> Result<Option<Event<L>>, TableFault> {
         let Some(record) = self.records.get(self.place) else {

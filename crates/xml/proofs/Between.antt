@@ -7,9 +7,9 @@ use Rattle.xml.specs.Markup.{markup, IsComment, IsInstruction, CommentFault, Ins
 use Rattle.xml.specs.Reading.{Found, Finds, FindsAt}
 use Rattle.xml.specs.Reading.Finds.{text, no_text, comment, comment_fault, instruction, instruction_fault, declaration, cut, stray}
 use Rattle.xml.specs.Inner.{stop_markup, some, GoesBy, Refused}
-use Rattle.xml.specs.declared.fault.Stop.{Stop}
-use Rattle.xml.specs.declared.fault.Markup.{Markup}
-use Rattle.xml.specs.declared.fault.Markup.TheVariants.{Text, Comment, Declaration, Instruction, Cut, Stray}
+use Rattle.xml.specs.declared.markup.Stop.{Stop}
+use Rattle.xml.specs.declared.markup.Markup.{Markup}
+use Rattle.xml.specs.declared.markup.Markup.TheVariants.{Text, Comment, Declaration, Instruction, Cut, Stray}
 use Rattle.xml.specs.declared.fault.ScanFault.{ScanFault}
 use Rattle.xml.specs.declared.fault.ScanFault.TheVariants.{Byte, End}
 use Rattle.xml.specs.declared.fault.XmlFault.TheVariants.{Scan, NotComment}

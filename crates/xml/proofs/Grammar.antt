@@ -15,8 +15,8 @@ use Rattle.xml.specs.Documents.{Begins, Outside, Sort, Is, DocumentFrom}
 use Rattle.xml.specs.Documents.Outside.{none, space, comment as comment_out, instruction as instruction_out}
 use Rattle.xml.specs.Documents.Sort.{element, content}
 use Rattle.xml.specs.Documents.Is.{empty, full, nothing, text, comment, instruction, child}
-use Rattle.xml.specs.declared.fault.Markup.{Markup}
-use Rattle.xml.specs.declared.fault.Markup.TheVariants.{Nothing, Text, EndTag, Comment, Declaration, Instruction, StartTag, Stray}
+use Rattle.xml.specs.declared.markup.Markup.{Markup}
+use Rattle.xml.specs.declared.markup.Markup.TheVariants.{Nothing, Text, EndTag, Comment, Declaration, Instruction, StartTag, Stray}
 use Rattle.xml.specs.declared.fault.XmlFault.{XmlFault}
 use Rattle.xml.proofs.Between.{found}
 use Rattle.xml.proofs.Once.{standing}

@@ -1,9 +1,9 @@
 -- How a reader's meaning goes on.
-use Rattle.std.proofs.Common.{◌≡◌, ℕ, zero, suc, ◌+◌, ◌-◌, ◌<◌, ◌≤◌, Bool, true, false, not, eqb, List, [], ◌∷◌, ◌++◌, map, reverse, length, take, drop, slice_get, Some, None, Decides, IsSome, Option, Bor, sym, refl, ap, ◌∙◌, subst, inl, inr, arith, drop-cons}
+use Rattle.std.proofs.Common.{◌≡◌, ℕ, suc, ◌+◌, ◌-◌, ◌<◌, Bool, true, false, not, eqb, List, [], ◌∷◌, ◌++◌, map, reverse, length, take, drop, slice_get, Some, None, Decides, IsSome, Option, Bor, sym, refl, ap, ◌∙◌, subst, inl, inr, arith, drop-cons}
 use Rattle.std.specs.Option.{option_to_list}
 use Rattle.sources.specs.declared.event.Event.{Event}
 use Rattle.sources.specs.declared.event.Event.TheVariants.{Open as Opening, Close as Closing}
-use Rattle.sources.specs.Events.{rest, ClosedFrom}
+use Rattle.sources.specs.Events.{rest}
 use Rattle.xml.specs.declared.tags.Tag.{Tag}
 use Rattle.xml.specs.declared.tags.Tag.TheVariants.{Open, Empty, Close}
 use Rattle.xml.specs.declared.reader.Tags.{Tags}
@@ -11,9 +11,8 @@ use Rattle.labels.specs.Spelling.{part, Spelled}
 use Rattle.labels.specs.NameOf.{name_of}
 use Rattle.xml.specs.Faults.{number, place}
 use Rattle.xml.specs.Reading.{levels, Finds, FindsAt, Reads, Room, Innermost}
-use Rattle.xml.specs.Reading.Finds.{finish, start, end_tag}
-use Rattle.xml.specs.declared.fault.Markup.{Markup}
-use Rattle.xml.specs.declared.reader.Xml.{Xml}
+use Rattle.xml.specs.Reading.Finds.{start, end_tag}
+use Rattle.xml.specs.declared.markup.Markup.{Markup}
 use Rattle.xml.specs.Reading.Found.{finishes, opens, closes, refuses}
 use Rattle.xml.specs.Reading.Reads.{done, refused, skipped, opened, opened_empty, closed}
 use Rattle.xml.specs.Total.{reading}
@@ -23,13 +22,13 @@ use Rattle.std.proofs.lemmas.Slice.Eq.{slice_eq-Decides}
 use Rattle.std.proofs.lemmas.Bool.Decides.{Decides-eqb}
 use Rattle.std.specs.Str.{bytes_eq}
 use Rattle.std.proofs.lemmas.Bool.{cases_Bool, both_ways, ne_eqb}
-use Rattle.xml.specs.Means.{labelled, pending, open_names, tags_names, tags_meaning, xml_events, xml_ending}
-use Rattle.xml.specs.Inner.{some, Tagged, Passes, tags_events, tags_ending, handed, Gives, Refuses, RootNamed, RootFails}
+use Rattle.xml.specs.Means.{labelled, open_names, tags_names, tags_meaning}
+use Rattle.xml.specs.Inner.{some, Tagged, Passes, tags_ending, handed, Gives, Refuses, RootNamed, RootFails}
 use Rattle.xml.specs.Inner.Passes.{here, on}
 use Rattle.labels.specs.declared.name.Name.{Name}
 use Rattle.xml.specs.declared.fault.XmlFault.{XmlFault}
 use Rattle.xml.specs.declared.scan.Opening.{Opening as Start}
-use Rattle.xml.specs.declared.fault.Markup.TheVariants.{StartTag, EndTag}
+use Rattle.xml.specs.declared.markup.Markup.TheVariants.{StartTag, EndTag}
 use Rattle.xml.specs.Markup.{markup, EndEnds}
 use Rattle.xml.proofs.Once.{once}
 use Rattle.xml.proofs.Between.{found}
@@ -103,33 +102,6 @@ last_innermost names n w b e f =
     sym (take-append-drop i names) ∙ ap (λ t. take i names ++ t) (drop-cons names i n h ∙ (λ k. get_or_from_slice_get names i n n (sym e) k ∷ behind k)) in
     let d = slice_eq-Decides Decides-eqb n.now w b f in
     subst (λ ns. Decides b (Innermost ns w)) (sym (ap open_names split ∙ push_names (take i names) n)) (λ t. sym (d.0 t), λ q. d.1 (sym q))
-
-finish_empty : (xs : List ℕ) (p : ℕ) (names : List (List ℕ)) (rooted : Bool) (k : Markup) → Finds xs p names rooted k finishes → names ≡ []
-finish_empty xs p names rooted k (finish a b) = a
-
-none_left : (k : ℕ) → k ≡ 0 → ClosedFrom {L = Name} k []
-none_left zero h = tt
-none_left (suc k) h = absurd (omega arith)
-
--- what is done closes all
-pub all_closed : (xs : List ℕ) (p : ℕ) (names : List (List ℕ)) (rooted : Bool) (es : List (Event (List ℕ))) (end : Option XmlFault) →
-    Reads xs p names rooted es end → end ≡ None → (k : ℕ) → k ≤ length names → ClosedFrom k (map labelled es)
-all_closed xs p names rooted es end (done f) e k h = let n = finish_empty xs p names rooted _ f in let z : length names ≡ 0 = ap length n in none_left k (omega arith)
-all_closed xs p names rooted es end (refused g f) e k h = let z : ◌≡◌ {A = ℕ} 0 1 = cc in absurd (omega arith)
-all_closed xs p names rooted es end (skipped {q = q} f d) e k h = all_closed xs q names rooted es end d e k h
-all_closed xs p names rooted es end (opened {n = n} {q = q} {es = ds} f d) e zero h = all_closed xs q (part xs (p + 1) n ∷ names) true ds end d e (suc zero) (omega arith)
-all_closed xs p names rooted es end (opened {n = n} {q = q} {es = ds} f d) e (suc k) h = all_closed xs q (part xs (p + 1) n ∷ names) true ds end d e (suc (suc k)) (omega arith)
-all_closed xs p names rooted es end (opened_empty {n = n} {q = q} {es = ds} f d) e zero h = all_closed xs q names true ds end d e zero h
-all_closed xs p names rooted es end (opened_empty {n = n} {q = q} {es = ds} f d) e (suc k) h = all_closed xs q names true ds end d e (suc k) h
-all_closed xs p names rooted es end (closed {q = q} {names = ns} {es = ds} f d) e zero h = all_closed xs q ns rooted ds end d e zero (omega arith)
-all_closed xs p names rooted es end (closed {q = q} {names = ns} {es = ds} f d) e (suc k) h = all_closed xs q ns rooted ds end d e k (omega arith)
-
-pub nested : (s : Xml) → xml_ending s ≡ None → ClosedFrom 0 (xml_events s)
-nested s e = go s.closing (all_closed _ _ _ _ _ _ (tags_meaning s.tags).reads e 0 (omega arith))
-  where
-    go : (b : Bool) → ClosedFrom 0 (tags_events s.tags) → ClosedFrom 0 (map labelled (pending b (tags_meaning s.tags).events))
-    go true h = h
-    go false h = h
 
 -- two readers whose meanings are known
 pub moves_give : (s t : Tags) (x : Tag) → t.rooted ≡ true → Moves (tags_meaning s).events (tags_ending s) (tags_meaning t).events (tags_ending t) x → Gives s t (Some x)

@@ -5,8 +5,8 @@ use Rattle.sources.specs.declared.event.Event.TheVariants.{Open, Close}
 use Rattle.labels.specs.Spelling.{byte, part, is_white}
 use Rattle.xml.specs.Markup.{markup, IsComment, IsInstruction, IsStart, IsEnd}
 use Rattle.xml.specs.Reading.{levels}
-use Rattle.xml.specs.declared.fault.Markup.{Markup}
-use Rattle.xml.specs.declared.fault.Markup.TheVariants.{Text, EndTag, Comment, Instruction, StartTag}
+use Rattle.xml.specs.declared.markup.Markup.{Markup}
+use Rattle.xml.specs.declared.markup.Markup.TheVariants.{Text, EndTag, Comment, Instruction, StartTag}
 
 abbrev pub Begins : List ℕ → ℕ → Markup → Type 0
 Begins xs p k = markup (drop p xs) ≡ k

@@ -10,12 +10,12 @@ use Rattle.xml.specs.Reading.{Finds, FindsAt}
 use Rattle.xml.specs.Reading.Found.{skips, refuses}
 use Rattle.xml.specs.Total.{reading}
 use Rattle.xml.specs.Means.{labelled, tags_names, tags_meaning}
-use Rattle.xml.specs.declared.fault.Markup.{Markup}
-use Rattle.xml.specs.declared.fault.Markup.TheVariants.{Nothing, StartTag, EndTag}
+use Rattle.xml.specs.declared.markup.Markup.{Markup}
+use Rattle.xml.specs.declared.markup.Markup.TheVariants.{Nothing, StartTag, EndTag}
 use Rattle.xml.specs.declared.fault.ScanFault.{ScanFault}
 use Rattle.xml.specs.declared.fault.ScanFault.TheVariants.{Byte, End, LongName}
-use Rattle.xml.specs.declared.fault.Stop.{Stop}
-use Rattle.xml.specs.declared.fault.Stop.TheVariants.{StartTag as start_tag, EndTag as end_tag, End as at_end}
+use Rattle.xml.specs.declared.markup.Stop.{Stop}
+use Rattle.xml.specs.declared.markup.Stop.TheVariants.{StartTag as start_tag, EndTag as end_tag, End as at_end}
 use Rattle.xml.specs.declared.fault.XmlFault.{XmlFault}
 use Rattle.xml.specs.declared.tags.Tag.{Tag}
 use Rattle.xml.specs.declared.tags.Tag.TheVariants.{Open as opens, Empty as empties, Close as closes}

@@ -7,4 +7,5 @@ pub mod Total
 pub mod Documents
 pub mod Laws
 pub mod Means
+pub mod Nesting
 pub mod Inner

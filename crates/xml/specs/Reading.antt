@@ -5,8 +5,8 @@ use Rattle.sources.specs.declared.event.Event.TheVariants.{Open, Close}
 use Rattle.labels.specs.Spelling.{byte, part, is_white, Spelled}
 use Rattle.xml.specs.Faults.{number, place}
 use Rattle.xml.specs.Markup.{markup, IsComment, IsInstruction, IsStart, IsEnd, NameFault, CommentFault, InstructionFault, StartFault, EndFault}
-use Rattle.xml.specs.declared.fault.Markup.{Markup}
-use Rattle.xml.specs.declared.fault.Markup.TheVariants.{Nothing, Text, EndTag, Comment, Declaration, Instruction, StartTag, Cut, Stray}
+use Rattle.xml.specs.declared.markup.Markup.{Markup}
+use Rattle.xml.specs.declared.markup.Markup.TheVariants.{Nothing, Text, EndTag, Comment, Declaration, Instruction, StartTag, Cut, Stray}
 use Rattle.xml.specs.declared.fault.XmlFault.{XmlFault}
 
 -- The elements that can be open at once

@@ -6,8 +6,8 @@ use Rattle.std.proofs.lemmas.Bool.{cases_lt, and_parts, not-false, eqb-true, or_
 use Rattle.labels.specs.Spelling.{byte, is_white, starts_name, Longest}
 use Rattle.xml.specs.Bytes.{plain, apart}
 use Rattle.xml.specs.Markup.{markup, behind, two_dashes, TagEnds}
-use Rattle.xml.specs.declared.fault.Markup.{Markup}
-use Rattle.xml.specs.declared.fault.Markup.TheVariants.{Nothing, Text, EndTag, Comment, Declaration, Instruction, StartTag, Cut, Stray}
+use Rattle.xml.specs.declared.markup.Markup.{Markup}
+use Rattle.xml.specs.declared.markup.Markup.TheVariants.{Nothing, Text, EndTag, Comment, Declaration, Instruction, StartTag, Cut, Stray}
 
 -- the bytes from a place on, by the place
 pub record From (xs : List ℕ) (d : ℕ) (bs : List ℕ) : Type 0 where

@@ -22,8 +22,8 @@ use Rattle.xml.specs.Reading.{levels, Room, Innermost, Finds, Reads}
 use Rattle.xml.specs.Reading.Found.{finishes, skips, opens, closes, refuses}
 use Rattle.xml.specs.Reading.Finds.{finish, early, text, no_text, comment, comment_fault, instruction, instruction_fault, declaration, cut, stray, start, second_root, deep, start_fault, end_tag, end_name, wrong_name, end_fault}
 use Rattle.xml.specs.Reading.Reads.{done, refused, skipped, opened, opened_empty, closed}
-use Rattle.xml.specs.declared.fault.Markup.{Markup}
-use Rattle.xml.specs.declared.fault.Markup.TheVariants.{Nothing, Text, EndTag, Comment, Declaration, Instruction, StartTag, Cut, Stray}
+use Rattle.xml.specs.declared.markup.Markup.{Markup}
+use Rattle.xml.specs.declared.markup.Markup.TheVariants.{Nothing, Text, EndTag, Comment, Declaration, Instruction, StartTag, Cut, Stray}
 use Rattle.xml.specs.declared.fault.ScanFault.TheVariants.{Byte, End, LongName}
 use Rattle.xml.specs.declared.fault.XmlFault.{XmlFault}
 use Rattle.xml.specs.declared.fault.XmlFault.TheVariants.{Scan, WrongName, NotComment, Deep}

@@ -101,28 +101,6 @@ impl LookFault {
     }
 }
 
-// What begins at a place.
-#[derive(Clone, Copy)]
-pub(crate) enum Markup {
-    Nothing,
-    Text,
-    EndTag,
-    Comment,
-    Declaration,
-    Instruction,
-    StartTag,
-    Cut,
-    Stray,
-}
-
-// Where the reader stops on its way.
-#[derive(Clone, Copy)]
-pub(crate) enum Stop {
-    StartTag,
-    EndTag,
-    End,
-}
-
 impl From<ScanFault> for XmlFault {
     ghost from_gives = { λ x y. y ≡ XmlFault.Scan x };
 

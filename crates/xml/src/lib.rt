@@ -3,6 +3,7 @@
 pub mod fault;
 pub mod laws;
 mod look;
+mod markup;
 pub mod reader;
 mod scan;
 mod skip;

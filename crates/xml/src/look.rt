@@ -1,9 +1,10 @@
 //! Looking ahead at the root's name.
-ghost use Rattle.std.specs.Prelude.{◌≡◌, ◌≤◌, false, length, MatchResult};
+ghost use Rattle.std.specs.Prelude.{◌≡◌, false, MatchResult};
 ghost use Rattle.xml.specs.Means.{Looks, NoLook, Kept, Unmoved};
 ghost use Rattle.xml.specs.Inner.{RootNamed, RootFails};
 
-use crate::fault::{LookFault, ScanFault, Stop, XmlFault};
+use crate::fault::{LookFault, ScanFault, XmlFault};
+use crate::markup::Stop;
 use crate::reader::{Tags, Xml};
 use crate::scan::{name_end, start_tag};
 use crate::skip::skip;

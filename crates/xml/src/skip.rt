@@ -1,12 +1,13 @@
 //! What stands between tags. Bare places go in and come out, for the reason at the head of scan.rt.
-ghost use Rattle.std.specs.Prelude.{◌≡◌, ◌+◌, ◌<◌, ◌≤◌, ◌&&◌, length, drop, MatchResult, ◌==◌, slice_index, not};
+ghost use Rattle.std.specs.Prelude.{◌≡◌, ◌+◌, ◌<◌, ◌≤◌, length, drop, MatchResult, slice_index, not};
 ghost use Rattle.labels.specs.Spelling.{Longest};
 ghost use Rattle.xml.specs.Bytes.{apart};
 ghost use Rattle.xml.specs.Markup.{markup, behind, CommentEnds, IsComment, IsInstruction, CommentFault, InstructionFault};
 ghost use Rattle.xml.specs.Inner.{Told, stop_markup, Steps, Refused, Passes};
-ghost use Rattle.xml.specs.declared.fault.Markup.TheVariants.{Comment, Instruction};
+ghost use Rattle.xml.specs.declared.markup.Markup.TheVariants.{Comment, Instruction};
 
-use crate::fault::{Markup, ScanFault, Stop, XmlFault};
+use crate::fault::{ScanFault, XmlFault};
+use crate::markup::{Markup, Stop};
 use labels::spelling::{is_white, rest, starts_name};
 use std::ops::ControlFlow;
 

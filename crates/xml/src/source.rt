@@ -1,10 +1,11 @@
 //! The reader as a source.
 ghost use Rattle.std.specs.Prelude.{◌≡◌, ℕ, false, List, [], None};
-ghost use Rattle.sources.specs.Events.{ClosedFrom, answer, rest};
+ghost use Rattle.sources.specs.Events.{answer, rest};
 ghost use Rattle.sources.specs.declared.event.Event.{Event};
 ghost use Rattle.xml.specs.Reading.{Reads};
 ghost use Rattle.xml.specs.Documents.{Document};
 ghost use Rattle.xml.specs.Means.{xml_events, xml_ending, xml_bytes, begun_by};
+ghost use Rattle.xml.specs.Nesting.{xml_nested};
 
 use crate::fault::XmlFault;
 use crate::reader::{Tags, Xml};
@@ -37,12 +38,13 @@ impl<'a> Source for Xml<'a> {
 
     ghost ending = { xml_ending };
 
+    ghost nested = { xml_nested };
+
     // What the trait says, and whether an event is behind the reader then.
     fn next(&mut self) -> Result<Option<Event<Name>>, XmlFault>
         ensures answer { result ≡ answer (xml_events self.old) (xml_ending self.old) }
         ensures others { xml_events self.new ≡ rest (xml_events self.old) }
         ensures ending { xml_ending self.new ≡ xml_ending self.old }
-        ensures nested { xml_ending self.old ≡ None → ClosedFrom 0 (xml_events self.old) }
         ensures begun { self.new.tags.rooted ≡ begun_by self.old.tags.rooted result }
     {
         if self.closing {

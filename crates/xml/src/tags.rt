@@ -6,9 +6,10 @@ ghost use Rattle.xml.specs.Markup.{markup};
 ghost use Rattle.xml.specs.Reading.{Innermost, Reads, Room};
 ghost use Rattle.xml.specs.Means.{tags_names, tags_meaning};
 ghost use Rattle.xml.specs.Inner.{NoRoom, Gives, Refuses, Comes};
-ghost use Rattle.xml.specs.declared.fault.Markup.TheVariants.{Nothing, StartTag, EndTag};
+ghost use Rattle.xml.specs.declared.markup.Markup.TheVariants.{Nothing, StartTag, EndTag};
 
-use crate::fault::{ScanFault, Stop, XmlFault};
+use crate::fault::{ScanFault, XmlFault};
+use crate::markup::Stop;
 use crate::reader::Tags;
 use crate::scan::{end_tag_end, name_end, start_tag};
 use crate::skip::skip;

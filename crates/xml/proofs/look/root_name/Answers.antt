@@ -2,7 +2,7 @@ use Rattle.std.proofs.Common.{◌+◌, false, [], length, refl}
 use Rattle.std.proofs.lemmas.Result.{err_from_is_err_and}
 use Rattle.std.proofs.lemmas.Bool.{both_ways}
 use Rattle.xml.specs.Reading.Finds.{early, start, start_fault, end_name, wrong_name}
-use Rattle.xml.specs.declared.fault.Stop.TheVariants.{StartTag, EndTag, End as at_end}
+use Rattle.xml.specs.declared.markup.Stop.TheVariants.{StartTag, EndTag, End as at_end}
 use Rattle.xml.specs.declared.fault.ScanFault.TheVariants.{End}
 use Rattle.xml.specs.declared.fault.XmlFault.TheVariants.{Scan, WrongName}
 use Rattle.xml.proofs.Between.{found_at}

@@ -2,7 +2,7 @@ use Rattle.std.proofs.Common.{◌≡◌, ◌+◌, length, refl, subst, arith}
 use Rattle.labels.specs.Spelling.{Longest}
 use Rattle.xml.specs.Bytes.{apart}
 use Rattle.xml.specs.Markup.InstructionFault.{ended}
-use Rattle.xml.specs.declared.fault.Markup.TheVariants.{Instruction}
+use Rattle.xml.specs.declared.markup.Markup.TheVariants.{Instruction}
 use Rattle.xml.specs.Shapes.{pair_here, reaches}
 use Rattle.xml.proofs.skip.instruction_end.Goals as goal
 

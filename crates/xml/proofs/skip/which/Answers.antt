@@ -1,7 +1,7 @@
 use Rattle.std.proofs.Common.{◌≡◌, ℕ, cond, List, [], ◌∷◌, get_or, drop, sym, ap, ◌∙◌, arith, rules}
 use Rattle.std.proofs.lemmas.List.{take_rest}
 use Rattle.std.proofs.lemmas.Bool.{eq-eqb}
-use Rattle.xml.specs.declared.fault.Markup.TheVariants.{Text}
+use Rattle.xml.specs.declared.markup.Markup.TheVariants.{Text}
 use Rattle.xml.specs.Markup.{markup, behind}
 use Rattle.xml.proofs.skip.which.Goals as goal
 

@@ -1,9 +1,6 @@
-use Rattle.std.proofs.Common.{◌<◌, drop, refl, sym, ltb-true, rules, arith}
-use Rattle.sources.proofs.TableSteps.{shut, closes, closed}
+use Rattle.std.proofs.Common.{◌<◌, refl, sym, ltb-true, rules, arith}
+use Rattle.sources.proofs.TableSteps.{shut, closes}
 use Rattle.sources.proofs.table.FolderTableSource.next.Goals as goal
-
-pub returns-in_default-clause-nested : goal.returns-in_default-clause-nested
-returns-in_default-clause-nested g c = let s = c.args.self.now in closed (drop s.place s.records.now) s.place 0 s.level (omega arith)
 
 pub returns-in-Less-clause-answer : goal.returns-in-Less-clause-answer
 returns-in-Less-clause-answer g c =
@@ -23,9 +20,3 @@ returns-in-Less-clause-others g c =
     let t = shut s.level c.close-in-Less.result c.close-in-Less.new.self.level (omega arith) c.close-in-Less.ensures.shuts in
     let stays = c.close-in-Less.ensures.stays in
     rw (t.1, stays.records, stays.place) h.others
-
-pub returns-in-Less-clause-nested : goal.returns-in-Less-clause-nested
-returns-in-Less-clause-nested g c = let s = c.args.self.now in closed (drop s.place s.records.now) s.place 0 s.level (omega arith)
-
-pub returns-in-Equal-clause-nested : goal.returns-in-Equal-clause-nested
-returns-in-Equal-clause-nested g c = let s = c.args.self.now in closed (drop s.place s.records.now) s.place 0 s.level (omega arith)

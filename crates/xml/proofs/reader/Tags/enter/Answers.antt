@@ -3,7 +3,7 @@ use Rattle.std.proofs.lemmas.Result.{err_from_is_err_and}
 use Rattle.labels.specs.NameOf.{name_of}
 use Rattle.xml.specs.Means.{open_names, tags_names}
 use Rattle.xml.specs.Reading.Finds.{start_fault}
-use Rattle.xml.specs.declared.fault.Markup.TheVariants.{StartTag}
+use Rattle.xml.specs.declared.markup.Markup.TheVariants.{StartTag}
 use Rattle.xml.specs.declared.fault.XmlFault.TheVariants.{Scan}
 use Rattle.xml.specs.declared.tags.Tag.TheVariants.{Open, Empty}
 use Rattle.xml.proofs.Between.{found}

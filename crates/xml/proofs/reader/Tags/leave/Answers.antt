@@ -3,7 +3,7 @@ use Rattle.std.proofs.lemmas.Result.{err_from_is_err_and}
 use Rattle.std.proofs.lemmas.Bool.{both_ways}
 use Rattle.xml.specs.Means.{tags_names}
 use Rattle.xml.specs.Reading.Finds.{end_name, wrong_name, end_fault}
-use Rattle.xml.specs.declared.fault.Markup.TheVariants.{EndTag}
+use Rattle.xml.specs.declared.markup.Markup.TheVariants.{EndTag}
 use Rattle.xml.specs.declared.fault.XmlFault.TheVariants.{Scan, WrongName}
 use Rattle.xml.specs.declared.tags.Tag.TheVariants.{Close}
 use Rattle.xml.proofs.Once.{standing}
