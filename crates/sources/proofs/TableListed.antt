@@ -3,6 +3,8 @@ use Rattle.sources.specs.declared.event.Event.TheVariants.{Open}
 use Rattle.sources.specs.Table.{closings, events_from, ending_from, Allowed, deeper, shallower, Listing}
 use Rattle.sources.specs.Table.Listing.{finished, refused, opened}
 use Rattle.sources.specs.declared.record.Record.{Record}
+use Rattle.sources.specs.declared.record.TableFault.{TableFault}
+use Rattle.sources.specs.declared.event.Event.{Event}
 
 -- the depth before, and those of the open nodes, where so many are open
 abbrev before_of : ℕ → Option ℕ
@@ -66,3 +68,23 @@ listed {L} (r ∷ rs) n l = by_test (listed rs (n + 1) (suc r.depth)) (ltb l r.d
         let k : Listing n (before_of l) (depths l) (r ∷ rs) (closings (l - r.depth) ++ Open r.label ∷ events_from (suc r.depth) rs) (ending_from (n + 1) (suc r.depth) rs) =
         rw (deeper_depths r.depth l) at h in
         rw (t, add-one) k
+
+-- records have one meaning
+once : {L : Type 0} (n : ℕ) (before : Option ℕ) (nodes : List ℕ) (rs : List (Record L)) (es ds : List (Event L)) (end to : Option TableFault) →
+    Listing n before nodes rs es end → Listing n before nodes rs ds to → (ds ≡ es) × (to ≡ end)
+once n before nodes rs es ds end to (finished _ _ _) (finished _ _ _) = (refl, refl)
+once n before nodes rs es ds end to (refused _ _ _ r rs₁ h) (refused _ _ _ _ _ g) = (refl, refl)
+once n before nodes rs es ds end to (refused _ _ _ r rs₁ h) (opened _ _ _ _ _ bs _ a l) = absurd (h a)
+once n before nodes rs es ds end to (opened _ _ _ r rs₁ fs _ a l) (refused _ _ _ _ _ g) = absurd (g a)
+once n before nodes rs es ds end to (opened _ _ _ r rs₁ fs _ a l) (opened _ _ _ _ _ bs _ b m) =
+    let h = once (n + 1) (Some r.depth) (r.depth ∷ shallower r.depth nodes) rs₁ fs bs end to l m in
+    (ap (λ x. closings (deeper r.depth nodes) ++ Open r.label ∷ x) h.0, h.1)
+
+pub only_events : {L : Type 0} (rs : List (Record L)) (ds : List (Event L)) (to : Option TableFault) → Listing 0 None [] rs ds to → ds ≡ events_from 0 rs
+only_events rs ds to d = (once 0 None [] rs (events_from 0 rs) ds (ending_from 0 0 rs) to (listed rs 0 0) d).0
+
+pub only_ending : {L : Type 0} (rs : List (Record L)) (ds : List (Event L)) (to : Option TableFault) → Listing 0 None [] rs ds to → to ≡ ending_from 0 0 rs
+only_ending rs ds to d = (once 0 None [] rs (events_from 0 rs) ds (ending_from 0 0 rs) to (listed rs 0 0) d).1
+
+-- what a new table means, and nothing else
+pub ruleset new_table = (listed, only_events, only_ending)

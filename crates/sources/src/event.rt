@@ -1,5 +1,5 @@
 //! An opening with the label of the node that it opens, or a closing of the last node still open.
-#[derive(Clone, Copy)]
+#[derive(Clone, Copy, PartialEq, Eq, Debug)]
 pub enum Event<L> {
     Open(L),
     Close,

@@ -6,7 +6,7 @@ use std::error::Error;
 use std::fmt;
 
 /// A folder: how deep it lies, and its label.
-#[derive(Clone, Copy)]
+#[derive(Clone, Copy, PartialEq, Eq, Debug)]
 pub struct Record<L> {
     pub depth: u32,
     pub label: L,

@@ -1,5 +1,6 @@
 //! The folder table as a source.
 ghost use Rattle.std.specs.Prelude.{[], None};
+ghost use Rattle.sources.specs.Events.{MeansOnly};
 ghost use Rattle.sources.specs.Inner.{Shuts, SamePlace};
 ghost use Rattle.sources.specs.Table.{table_events, table_ending, Listing};
 ghost use Rattle.sources.specs.TableLaws.{table_nested};
@@ -12,9 +13,9 @@ use std::cmp::Ordering;
 
 impl<'a, L: LabelKind> FolderTable<'a, L> {
     /// A source of the nodes of the records.
-    #[tactic(auto, using(crate::proofs::TableListed::listed))]
+    #[tactic(auto, using(crate::proofs::TableListed::new_table))]
     pub fn new(records: &'a [Record<L>]) -> FolderTable<'a, L>
-        ensures { Listing 0 None [] records.now (table_events result) (table_ending result) }
+        ensures { MeansOnly (Listing 0 None [] records.now) (table_events result) (table_ending result) }
     {
         FolderTable {
             records,
