@@ -1,5 +1,6 @@
 -- The faults of a listing by their numbers and places.
 use Rattle.std.specs.Prelude.{ℕ, List}
+use Rattle.std.specs.Fmt.{decimal}
 use Rattle.labels.specs.Printed.{number_at}
 use Rattle.xml.specs.declared.fault.ScanFault.{ScanFault}
 use Rattle.xml.specs.declared.fault.ScanFault.TheVariants.{Byte, End, LongName}
@@ -38,3 +39,8 @@ fault_text f = number_at (number f) (place f)
 abbrev pub look_number : LookFault → ℕ
 look_number (Listing f) = number f
 look_number Begun = 25
+
+-- a fault of a look ahead as it is written
+abbrev pub look_text : LookFault → List ℕ
+look_text (Listing f) = fault_text f
+look_text Begun = decimal 25

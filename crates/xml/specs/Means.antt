@@ -45,7 +45,11 @@ xml_events s = map labelled (xml_bytes s)
 abbrev pub xml_ending : Xml → Option XmlFault
 xml_ending s = (tags_meaning s.tags).ending
 
--- whether an event is behind the reader after an answer of next
+-- an event is behind the reader
+abbrev pub begun : Xml → Bool
+begun s = s.tags.rooted
+
+-- whether one is after an answer of next
 abbrev pub begun_by : Bool → Result (Option (Event Name)) XmlFault → Bool
 begun_by before (Ok (Some e)) = true
 begun_by before (Ok None) = before
@@ -53,7 +57,7 @@ begun_by before (Err f) = before
 
 -- A look ahead answers the root's name, as a part of the input: it is in the first event to come
 pub record Looks (s : Xml) (w : List ℕ) : Type 0 where
-  pub early : s.tags.rooted ≡ false
+  pub early : begun s ≡ false
   pub others : List (Event (List ℕ))
   pub first : xml_bytes s ≡ Open w ∷ others
   pub from : ℕ
@@ -62,13 +66,13 @@ pub record Looks (s : Xml) (w : List ℕ) : Type 0 where
 
 -- or the fault that next would answer
 pub record Fails (s : Xml) (f : XmlFault) : Type 0 where
-  pub early : s.tags.rooted ≡ false
+  pub early : begun s ≡ false
   pub none : xml_bytes s ≡ []
   pub ends : xml_ending s ≡ Some f
 
 -- or that an event is behind the reader
 abbrev pub NoLook : Xml → LookFault → Type 0
-NoLook s Begun = s.tags.rooted ≡ true
+NoLook s Begun = begun s ≡ true
 NoLook s (Listing f) = Fails s f
 
 -- and leaves the reader as it was

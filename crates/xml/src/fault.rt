@@ -1,6 +1,6 @@
 //! What can be wrong with a listing, and what the reader comes to.
 ghost use Rattle.std.specs.Prelude.{◌≡◌, Some};
-ghost use Rattle.xml.specs.Faults.{scan_number, scan_place, number, place, fault_text, look_number};
+ghost use Rattle.xml.specs.Faults.{scan_number, scan_place, number, place, fault_text, look_number, look_text};
 ghost use Rattle.xml.specs.declared.fault.LookFault.{LookFault};
 ghost use Rattle.xml.specs.declared.fault.XmlFault.{XmlFault};
 
@@ -100,6 +100,20 @@ impl LookFault {
         }
     }
 }
+
+// The listing's fault, or the number alone.
+impl fmt::Display for LookFault {
+    ghost output = { λ f. Some (look_text f) };
+
+    fn fmt<W: fmt::Write>(&self, f: &mut fmt::Formatter<W>) -> fmt::Result {
+        match self {
+            LookFault::Listing(fault) => write!(f, "{fault}"),
+            LookFault::Begun => write!(f, "{}", self.number()),
+        }
+    }
+}
+
+impl Error for LookFault {}
 
 impl From<ScanFault> for XmlFault {
     ghost from_gives = { λ x y. y ≡ XmlFault.Scan x };

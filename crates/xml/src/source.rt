@@ -4,7 +4,7 @@ ghost use Rattle.sources.specs.Events.{answer, rest};
 ghost use Rattle.sources.specs.declared.event.Event.{Event};
 ghost use Rattle.xml.specs.Reading.{Reads};
 ghost use Rattle.xml.specs.Documents.{Document};
-ghost use Rattle.xml.specs.Means.{xml_events, xml_ending, xml_bytes, begun_by};
+ghost use Rattle.xml.specs.Means.{xml_events, xml_ending, xml_bytes, begun, begun_by};
 ghost use Rattle.xml.specs.Nesting.{xml_nested};
 
 use crate::fault::XmlFault;
@@ -45,7 +45,7 @@ impl<'a> Source for Xml<'a> {
         ensures answer { result ≡ answer (xml_events self.old) (xml_ending self.old) }
         ensures others { xml_events self.new ≡ rest (xml_events self.old) }
         ensures ending { xml_ending self.new ≡ xml_ending self.old }
-        ensures begun { self.new.tags.rooted ≡ begun_by self.old.tags.rooted result }
+        ensures begun { begun self.new ≡ begun_by (begun self.old) result }
     {
         if self.closing {
             self.closing = false;
