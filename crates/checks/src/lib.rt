@@ -12,6 +12,8 @@ mod names;
 #[cfg(test)]
 mod records;
 #[cfg(test)]
+mod tables;
+#[cfg(test)]
 mod texts;
 #[cfg(test)]
 mod trees;

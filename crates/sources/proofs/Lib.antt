@@ -3,3 +3,4 @@ pub mod Heard
 pub mod NodeLaws
 pub mod TableSteps
 pub mod TableListed
+pub mod TableNodes

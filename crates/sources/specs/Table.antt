@@ -50,3 +50,13 @@ pub data Listing {L : Type 0} : ℕ → Option ℕ → List ℕ → List (Record
       Allowed before r.depth →
       Listing (n + 1) (Some r.depth) (r.depth ∷ shallower r.depth nodes) rs es end →
       Listing n before nodes (r ∷ rs) (closings (deeper r.depth nodes) ++ Open r.label ∷ es) end
+
+-- Of the records before, the last one first, each with its number and depth: the first that is less deep than d
+abbrev pub above : ℕ → List (ℕ × ℕ) → Option ℕ
+above d [] = None
+above d ((n, e) ∷ before) = cond (nat_lt e d) (Some n) (above d before)
+
+-- The nodes of a table that is done are its records, and the parent of each is the last record before it that is less deep.
+abbrev pub record_nodes : {L : Type 0} → ℕ → List (ℕ × ℕ) → List (Record L) → List (Option ℕ × L)
+record_nodes n before [] = []
+record_nodes n before (r ∷ rs) = (above r.depth before, r.label) ∷ record_nodes (suc n) ((n, r.depth) ∷ before) rs

@@ -1,8 +1,9 @@
 //! The folder table as a source.
-ghost use Rattle.std.specs.Prelude.{[], None};
+ghost use Rattle.std.specs.Prelude.{◌≡◌, [], None};
 ghost use Rattle.sources.specs.Events.{MeansOnly};
+ghost use Rattle.sources.specs.Nodes.{nodes};
 ghost use Rattle.sources.specs.Inner.{Shuts, SamePlace};
-ghost use Rattle.sources.specs.Table.{table_events, table_ending, Listing};
+ghost use Rattle.sources.specs.Table.{table_events, table_ending, record_nodes, Listing};
 ghost use Rattle.sources.specs.TableLaws.{table_nested};
 
 use crate::event::Event;
@@ -13,9 +14,10 @@ use std::cmp::Ordering;
 
 impl<'a, L: LabelKind> FolderTable<'a, L> {
     /// A source of the nodes of the records.
-    #[tactic(auto, using(crate::proofs::TableListed::new_table))]
+    #[tactic(auto, using(crate::proofs::TableListed::new_table, crate::proofs::TableNodes::nodes_listed))]
     pub fn new(records: &'a [Record<L>]) -> FolderTable<'a, L>
-        ensures { MeansOnly (Listing 0 None [] records.now) (table_events result) (table_ending result) }
+        ensures meaning { MeansOnly (Listing 0 None [] records.now) (table_events result) (table_ending result) }
+        ensures nodes { table_ending result ≡ None → nodes (table_events result) ≡ record_nodes 0 [] records.now }
     {
         FolderTable {
             records,
