@@ -1,4 +1,4 @@
-use Rattle.std.specs.Prelude.{ℕ, zero, suc, List, [], ◌∷◌, Some, None, Ok, Err, Option, Result}
+use Rattle.std.specs.Prelude.{◌≡◌, ℕ, zero, suc, List, [], ◌∷◌, Some, None, Ok, Err, Option, Result}
 use Rattle.sources.specs.declared.event.Event.{Event}
 use Rattle.sources.specs.declared.event.Event.TheVariants.{Open, Close}
 
@@ -21,3 +21,8 @@ answer [] (Some f) = Err f
 abbrev pub rest : {L : Type 0} → List (Event L) → List (Event L)
 rest [] = []
 rest (e ∷ es) = es
+
+-- These events and this ending are what is meant, and no others are.
+pub record MeansOnly {L F : Type 0} (Means : List (Event L) → Option F → Type 0) (es : List (Event L)) (end : Option F) : Type 0 where
+  pub means : Means es end
+  pub only : (ds : List (Event L)) (to : Option F) → Means ds to → (ds ≡ es) × (to ≡ end)
