@@ -28,15 +28,20 @@ use Rattle.xml.proofs.Once.{standing, once}
 tree_events : (w : List ℕ) (inside trees : Forest (List ℕ)) (ds : List (Event (List ℕ))) →
     events_of (tree w inside none) ++ (events_of trees ++ ds) ≡ events_of (tree w inside trees) ++ ds
 tree_events w inside trees ds =
-    ap (λ x. Open w ∷ x) (append_assoc (events_of inside) (Close ∷ []) (events_of trees ++ ds) ∙ sym (append_assoc (events_of inside) (Close ∷ events_of trees) ds))
+    let apart = append_assoc (events_of inside) (Close ∷ []) (events_of trees ++ ds) in
+    ap (λ x. Open w ∷ x) (apart ∙ sym (append_assoc (events_of inside) (Close ∷ events_of trees) ds))
 
 -- from the grammar to the reading
 module _ (xs : List ℕ) where
-  misc_reads : (p q : ℕ) (rooted : Bool) (es : List (Event (List ℕ))) (end : Option XmlFault) → Misc xs p q → Reads xs q [] rooted es end → Reads xs p [] rooted es end
+  misc_reads : (p q : ℕ) (rooted : Bool) (es : List (Event (List ℕ))) (end : Option XmlFault) →
+      Misc xs p q → Reads xs q [] rooted es end → Reads xs p [] rooted es end
   misc_reads p q rooted es end no_misc d = d
-  misc_reads p q rooted es end (space b w o) d = skipped (found xs p [] rooted Text _ (sym b) (text_found (λ _. w))) (misc_reads (p + 1) q rooted es end o d)
-  misc_reads p q rooted es end (comment_misc {r = r} b c o) d = skipped (found xs p [] rooted Comment _ (sym b) (comment_found c)) (misc_reads r q rooted es end o d)
-  misc_reads p q rooted es end (instruction_misc {r = r} b c o) d = skipped (found xs p [] rooted Instruction _ (sym b) (instruction_found c)) (misc_reads r q rooted es end o d)
+  misc_reads p q rooted es end (space b w o) d =
+      skipped (found xs p [] rooted Text _ (sym b) (text_found (λ _. w))) (misc_reads (p + 1) q rooted es end o d)
+  misc_reads p q rooted es end (comment_misc {r = r} b c o) d =
+      skipped (found xs p [] rooted Comment _ (sym b) (comment_found c)) (misc_reads r q rooted es end o d)
+  misc_reads p q rooted es end (instruction_misc {r = r} b c o) d =
+      skipped (found xs p [] rooted Instruction _ (sym b) (instruction_found c)) (misc_reads r q rooted es end o d)
 
   abbrev Fit : Production → List (List ℕ) → Bool → Type 0
   Fit element names rooted = names ≡ [] → rooted ≡ false
@@ -96,7 +101,8 @@ data Skipped (xs : List ℕ) (p q : ℕ) (names : List (List ℕ)) : Type 0 wher
   by_comment : Begins xs p Comment → IsComment xs p q → Skipped xs p q names
   by_instruction : Begins xs p Instruction → IsInstruction xs p q → Skipped xs p q names
 
-skips_from : (xs : List ℕ) (p : ℕ) (names : List (List ℕ)) (rooted : Bool) (k : Markup) (q : ℕ) → Begins xs p k → Finds xs p names rooted k (skips q) → Skipped xs p q names
+skips_from : (xs : List ℕ) (p : ℕ) (names : List (List ℕ)) (rooted : Bool) (k : Markup) (q : ℕ) →
+    Begins xs p k → Finds xs p names rooted k (skips q) → Skipped xs p q names
 skips_from xs p names rooted k q b (text_found h) = by_text b refl h
 skips_from xs p names rooted k q b (comment_found h) = by_comment b h
 skips_from xs p names rooted k q b (instruction_found h) = by_instruction b h
@@ -106,15 +112,15 @@ skips_within xs p q names (by_text b e h) = omega (arith, reaches xs p Text b (o
 skips_within xs p q names (by_comment b d) = let e = d.ends in omega (arith, standing xs (d.dashes + 1 + 1) 62 d.closes.1.1.0 (omega arith))
 skips_within xs p q names (by_instruction b d) = let e = d.ends in omega (arith, standing xs (d.close + 1) 62 d.closes.1.0 (omega arith))
 
-opens_from : (xs : List ℕ) (p : ℕ) (names : List (List ℕ)) (rooted : Bool) (k : Markup) (n q : ℕ) (e : Bool) → Begins xs p k → Finds xs p names rooted k (opens n q e) →
-    Begins xs p StartTag × Room names rooted × IsStart xs p n q e
+opens_from : (xs : List ℕ) (p : ℕ) (names : List (List ℕ)) (rooted : Bool) (k : Markup) (n q : ℕ) (e : Bool) →
+    Begins xs p k → Finds xs p names rooted k (opens n q e) → Begins xs p StartTag × Room names rooted × IsStart xs p n q e
 opens_from xs p names rooted k n q e b (start_found r i) = (b, r, i)
 
 start_within : (xs : List ℕ) (p n q : ℕ) (e : Bool) → IsStart xs p n q e → q ≤ length xs
 start_within xs p n q e i = let g = i.ends in omega (arith, standing xs i.close 62 i.tag.closes (omega arith))
 
-closes_from : (xs : List ℕ) (p : ℕ) (w : List ℕ) (names : List (List ℕ)) (rooted : Bool) (k : Markup) (q : ℕ) → Begins xs p k → Finds xs p (w ∷ names) rooted k (closes q) →
-    Begins xs p EndTag × ((n : ℕ) × (part xs (p + 2) n ≡ w) × IsEnd xs p n q)
+closes_from : (xs : List ℕ) (p : ℕ) (w : List ℕ) (names : List (List ℕ)) (rooted : Bool) (k : Markup) (q : ℕ) →
+    Begins xs p k → Finds xs p (w ∷ names) rooted k (closes q) → Begins xs p EndTag × ((n : ℕ) × (part xs (p + 2) n ≡ w) × IsEnd xs p n q)
 closes_from xs p w names rooted k q b (end_found {n = n} i d) = (b, (n, i, d))
 
 finish_from : (xs : List ℕ) (p : ℕ) (names : List (List ℕ)) (rooted : Bool) (k : Markup) → Begins xs p k → Finds xs p names rooted k finishes →
@@ -129,7 +135,8 @@ Tails xs (w ∷ ns) p es =
     Is xs content (suc (length ns)) p s trees × Begins xs s EndTag × IsEnd xs s m q ×
     (part xs (s + 2) m ≡ w) × Tails xs ns q cs × (es ≡ events_of trees ++ (Close ∷ cs))
 
-tails_skip : (xs : List ℕ) (p q : ℕ) (names : List (List ℕ)) (es : List (Event (List ℕ))) → Skipped xs p q names → Tails xs names q es → Tails xs names p es
+tails_skip : (xs : List ℕ) (p q : ℕ) (names : List (List ℕ)) (es : List (Event (List ℕ))) →
+    Skipped xs p q names → Tails xs names q es → Tails xs names p es
 tails_skip xs p q [] es (by_text b e h) t = (t.0, space b (h refl) (subst (λ x. Misc xs x (length xs)) e t.1))
 tails_skip xs p q [] es (by_comment b d) t = (t.0, comment_misc b d t.1)
 tails_skip xs p q [] es (by_instruction b d) t = (t.0, instruction_misc b d t.1)
@@ -144,7 +151,8 @@ tails_child : (xs : List ℕ) (p q : ℕ) (w v : List ℕ) (ns : List (List ℕ)
 tails_child xs p q w v ns inside es a (s, m, r, trees, cs, c, g, i, same, on, eq) =
     (s, m, r, tree v inside trees, cs, child a c, g, i, same, on, ap (λ x. events_of (tree v inside none) ++ x) eq ∙ tree_events v inside trees (Close ∷ cs))
 
-tails_open : (xs : List ℕ) (p n q : ℕ) (names : List (List ℕ)) (es : List (Event (List ℕ))) → Begins xs p StartTag → length names < levels → IsStart xs p n q false → (names ≡ [] → ⊥) →
+tails_open : (xs : List ℕ) (p n q : ℕ) (names : List (List ℕ)) (es : List (Event (List ℕ))) →
+    Begins xs p StartTag → length names < levels → IsStart xs p n q false → (names ≡ [] → ⊥) →
     Tails xs (part xs (p + 1) n ∷ names) q es → Tails xs names p (Open (part xs (p + 1) n) ∷ es)
 tails_open xs p n q [] es b few i ne t = absurd (ne refl)
 tails_open xs p n q (w ∷ ns) es b few i ne (s, m, r, inside, cs, c, g, j, same, on, eq) =
@@ -152,7 +160,8 @@ tails_open xs p n q (w ∷ ns) es b few i ne (s, m, r, inside, cs, c, g, j, same
     subst (λ x. Tails xs (w ∷ ns) p x) (ap (λ x. Open v ∷ x) (append_assoc (events_of inside) (Close ∷ []) cs ∙ sym eq))
     (tails_child xs p r w v ns inside cs (tags few b i c g j same) on)
 
-tails_empty : (xs : List ℕ) (p n q : ℕ) (names : List (List ℕ)) (es : List (Event (List ℕ))) → Begins xs p StartTag → length names < levels → IsStart xs p n q true → (names ≡ [] → ⊥) →
+tails_empty : (xs : List ℕ) (p n q : ℕ) (names : List (List ℕ)) (es : List (Event (List ℕ))) →
+    Begins xs p StartTag → length names < levels → IsStart xs p n q true → (names ≡ [] → ⊥) →
     Tails xs names q es → Tails xs names p (Open (part xs (p + 1) n) ∷ Close ∷ es)
 tails_empty xs p n q [] es b few i ne t = absurd (ne refl)
 tails_empty xs p n q (w ∷ ns) es b few i ne t = tails_child xs p q w (part xs (p + 1) n) ns none es (empty_tag few b i) t

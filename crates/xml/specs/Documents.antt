@@ -1,9 +1,9 @@
--- Which listings are documents, and the trees of their elements. The productions are those of XML 1.0, as far as a listing is looked at:
--- no document type declaration and no CDATA section, an XML declaration is an instruction, and entities are text.
---   [1]  document: Misc, one root element, and Misc up to the end
---   [27] Misc: comments, instructions and white space
+-- Which listings are documents, and the tree of each, by these productions of XML 1.0, as far as a listing is looked at:
+--   [1]  document: Misc, one root element, Misc
+--   [27] Misc: white space, comments and instructions
 --   [39] element: the tag of an empty element, or a start tag, content, and an end tag with the same name
 --   [43] content: text, elements, comments and instructions
+-- No document type declaration and no CDATA section is allowed. An XML declaration counts as an instruction, and a reference as text.
 use Rattle.std.specs.Prelude.{◌≡◌, ℕ, suc, ◌+◌, ◌<◌, true, false, List, length, drop, None, Option}
 use Rattle.sources.specs.declared.event.Event.{Event}
 use Rattle.sources.specs.Forest.{Forest, events_of}
@@ -18,7 +18,7 @@ use Rattle.xml.specs.declared.fault.XmlFault.{XmlFault}
 abbrev pub Begins : List ℕ → ℕ → Markup → Type 0
 Begins xs p k = markup (drop p xs) ≡ k
 
--- Misc stands from p to q
+-- what stands from p to q outside the root
 pub data Misc (xs : List ℕ) : ℕ → ℕ → Type 0 where
   nothing : {p : ℕ} → Misc xs p p
   space : {p q : ℕ} → Begins xs p Text → is_white (byte xs p) ≡ true → Misc xs (p + 1) q → Misc xs p q
@@ -29,7 +29,7 @@ pub data Production : Type 0 where
   element : Production
   content : Production
 
--- An element, or content, stands from p to q, with k elements open around it: its trees, each labelled with its element's name
+-- An element, or content, stands from p to q with k elements open around it. Its trees have the names of the elements for labels.
 pub data Is (xs : List ℕ) : Production → ℕ → ℕ → ℕ → Forest (List ℕ) → Type 0 where
   empty_tag : {k p n q : ℕ} → k < levels → Begins xs p StartTag → IsStart xs p n q true → Is xs element k p q (tree (part xs (p + 1) n) none none)
   tags : {k p n r s m q : ℕ} {inside : Forest (List ℕ)} →
@@ -44,7 +44,7 @@ pub data Is (xs : List ℕ) : Production → ℕ → ℕ → ℕ → Forest (Lis
   child : {k p r q : ℕ} {w : List ℕ} {inside behind : Forest (List ℕ)} →
       Is xs element k p r (tree w inside none) → Is xs content k r q behind → Is xs content k p q (tree w inside behind)
 
--- a document from p to the end of the listing, with its root's tree
+-- From p on, the rest of the listing is a document, with the root's tree.
 pub record DocumentFrom (xs : List ℕ) (p : ℕ) (trees : Forest (List ℕ)) : Type 0 where
   pub start : ℕ
   pub stop : ℕ
@@ -52,7 +52,7 @@ pub record DocumentFrom (xs : List ℕ) (p : ℕ) (trees : Forest (List ℕ)) : 
   pub root : Is xs element 0 start stop trees
   pub behind : Misc xs stop (length xs)
 
--- The listing is a document.
+-- the whole of it
 abbrev pub Document : List ℕ → Forest (List ℕ) → Type 0
 Document xs trees = DocumentFrom xs 0 trees
 
