@@ -1,45 +1,62 @@
--- Which listings are right: the grammar, with the events that it gives.
-use Rattle.std.specs.Prelude.{◌≡◌, ℕ, suc, ◌+◌, ◌<◌, true, false, List, [], ◌∷◌, ◌++◌, length, drop}
+-- Which listings are documents, and the tree of each, by these productions of XML 1.0, as far as a listing is looked at:
+--   [1]  document: Misc, one root element, Misc
+--   [27] Misc: white space, comments and instructions
+--   [39] element: the tag of an empty element, or a start tag, content, and an end tag with the same name
+--   [43] content: text, elements, comments and instructions
+-- No document type declaration and no CDATA section is allowed. An XML declaration counts as an instruction, and a reference as text.
+use Rattle.std.specs.Prelude.{◌≡◌, ℕ, suc, ◌+◌, ◌<◌, true, false, List, length, drop, None, Option}
 use Rattle.sources.specs.declared.event.Event.{Event}
-use Rattle.sources.specs.declared.event.Event.TheVariants.{Open, Close}
+use Rattle.sources.specs.Forest.{Forest, events_of}
+use Rattle.sources.specs.Forest.Forest.{none, tree}
 use Rattle.labels.specs.Spelling.{byte, part, is_white}
 use Rattle.xml.specs.Markup.{markup, IsComment, IsInstruction, IsStart, IsEnd}
 use Rattle.xml.specs.Reading.{levels}
 use Rattle.xml.specs.declared.markup.Markup.{Markup}
 use Rattle.xml.specs.declared.markup.Markup.TheVariants.{Text, EndTag, Comment, Instruction, StartTag}
+use Rattle.xml.specs.declared.fault.XmlFault.{XmlFault}
 
 abbrev pub Begins : List ℕ → ℕ → Markup → Type 0
 Begins xs p k = markup (drop p xs) ≡ k
 
--- white space, comments and instructions outside the root
-pub data Outside (xs : List ℕ) : ℕ → ℕ → Type 0 where
-  none : {p : ℕ} → Outside xs p p
-  space : {p q : ℕ} → Begins xs p Text → is_white (byte xs p) ≡ true → Outside xs (p + 1) q → Outside xs p q
-  comment : {p r q : ℕ} → Begins xs p Comment → IsComment xs p r → Outside xs r q → Outside xs p q
-  instruction : {p r q : ℕ} → Begins xs p Instruction → IsInstruction xs p r → Outside xs r q → Outside xs p q
+-- what stands from p to q outside the root
+pub data Misc (xs : List ℕ) : ℕ → ℕ → Type 0 where
+  nothing : {p : ℕ} → Misc xs p p
+  space : {p q : ℕ} → Begins xs p Text → is_white (byte xs p) ≡ true → Misc xs (p + 1) q → Misc xs p q
+  comment : {p r q : ℕ} → Begins xs p Comment → IsComment xs p r → Misc xs r q → Misc xs p q
+  instruction : {p r q : ℕ} → Begins xs p Instruction → IsInstruction xs p r → Misc xs r q → Misc xs p q
 
-pub data Sort : Type 0 where
-  element : Sort
-  content : Sort
+pub data Production : Type 0 where
+  element : Production
+  content : Production
 
--- an element, and the content of one, from p to q, with k elements open around it: its events
-pub data Is (xs : List ℕ) : Sort → ℕ → ℕ → ℕ → List (Event (List ℕ)) → Type 0 where
-  empty : {k p n q : ℕ} → k < levels → Begins xs p StartTag → IsStart xs p n q true → Is xs element k p q (Open (part xs (p + 1) n) ∷ Close ∷ [])
-  full : {k p n r s m q : ℕ} {es : List (Event (List ℕ))} → k < levels → Begins xs p StartTag → IsStart xs p n r false → Is xs content (suc k) r s es →
-      Begins xs s EndTag → IsEnd xs s m q → part xs (s + 2) m ≡ part xs (p + 1) n → Is xs element k p q (Open (part xs (p + 1) n) ∷ es ++ (Close ∷ []))
-  nothing : {k p : ℕ} → Is xs content k p p []
-  text : {k p q : ℕ} {es : List (Event (List ℕ))} → Begins xs p Text → Is xs content k (p + 1) q es → Is xs content k p q es
-  comment : {k p r q : ℕ} {es : List (Event (List ℕ))} → Begins xs p Comment → IsComment xs p r → Is xs content k r q es → Is xs content k p q es
-  instruction : {k p r q : ℕ} {es : List (Event (List ℕ))} → Begins xs p Instruction → IsInstruction xs p r → Is xs content k r q es → Is xs content k p q es
-  child : {k p r q : ℕ} {es ds : List (Event (List ℕ))} → Is xs element k p r es → Is xs content k r q ds → Is xs content k p q (es ++ ds)
+-- An element, or content, stands from p to q with k elements open around it. Its trees have the names of the elements for labels.
+pub data Is (xs : List ℕ) : Production → ℕ → ℕ → ℕ → Forest (List ℕ) → Type 0 where
+  empty_tag : {k p n q : ℕ} → k < levels → Begins xs p StartTag → IsStart xs p n q true → Is xs element k p q (tree (part xs (p + 1) n) none none)
+  tags : {k p n r s m q : ℕ} {inside : Forest (List ℕ)} →
+      k < levels → Begins xs p StartTag → IsStart xs p n r false →
+      Is xs content (suc k) r s inside →
+      Begins xs s EndTag → IsEnd xs s m q → part xs (s + 2) m ≡ part xs (p + 1) n →
+      Is xs element k p q (tree (part xs (p + 1) n) inside none)
+  nothing : {k p : ℕ} → Is xs content k p p none
+  text : {k p q : ℕ} {trees : Forest (List ℕ)} → Begins xs p Text → Is xs content k (p + 1) q trees → Is xs content k p q trees
+  comment : {k p r q : ℕ} {trees : Forest (List ℕ)} → Begins xs p Comment → IsComment xs p r → Is xs content k r q trees → Is xs content k p q trees
+  instruction : {k p r q : ℕ} {trees : Forest (List ℕ)} → Begins xs p Instruction → IsInstruction xs p r → Is xs content k r q trees → Is xs content k p q trees
+  child : {k p r q : ℕ} {w : List ℕ} {inside behind : Forest (List ℕ)} →
+      Is xs element k p r (tree w inside none) → Is xs content k r q behind → Is xs content k p q (tree w inside behind)
 
--- one root element
-pub record DocumentFrom (xs : List ℕ) (p : ℕ) (es : List (Event (List ℕ))) : Type 0 where
+-- From p on, the rest of the listing is a document, with the root's tree.
+pub record DocumentFrom (xs : List ℕ) (p : ℕ) (trees : Forest (List ℕ)) : Type 0 where
   pub start : ℕ
   pub stop : ℕ
-  pub before : Outside xs p start
-  pub root : Is xs element 0 start stop es
-  pub behind : Outside xs stop (length xs)
+  pub before : Misc xs p start
+  pub root : Is xs element 0 start stop trees
+  pub behind : Misc xs stop (length xs)
 
-abbrev pub Document : List ℕ → List (Event (List ℕ)) → Type 0
-Document xs es = DocumentFrom xs 0 es
+-- the whole of it
+abbrev pub Document : List ℕ → Forest (List ℕ) → Type 0
+Document xs trees = DocumentFrom xs 0 trees
+
+-- A listing is done exactly when it is a document, and then its events are those of the document's tree.
+pub record DoneAsDocument (xs : List ℕ) (es : List (Event (List ℕ))) (end : Option XmlFault) : Type 0 where
+  pub only_documents : end ≡ None → (trees : Forest (List ℕ)) × Document xs trees × (es ≡ events_of trees)
+  pub all_documents : (trees : Forest (List ℕ)) → Document xs trees → (end ≡ None) × (es ≡ events_of trees)

@@ -5,7 +5,6 @@ pub mod Shapes
 pub mod Reading
 pub mod Total
 pub mod Documents
-pub mod Laws
 pub mod Means
 pub mod Nesting
 pub mod Inner

@@ -1,7 +1,6 @@
 #![tactic(auto)]
 
 pub mod fault;
-pub mod laws;
 mod look;
 mod markup;
 pub mod reader;

@@ -1,9 +1,8 @@
 //! The reader as a source.
-ghost use Rattle.std.specs.Prelude.{◌≡◌, ℕ, false, List, [], None};
-ghost use Rattle.sources.specs.Events.{answer, rest};
-ghost use Rattle.sources.specs.declared.event.Event.{Event};
+ghost use Rattle.std.specs.Prelude.{◌≡◌, false, []};
+ghost use Rattle.sources.specs.Events.{MeansOnly, answer, rest};
 ghost use Rattle.xml.specs.Reading.{Reads};
-ghost use Rattle.xml.specs.Documents.{Document};
+ghost use Rattle.xml.specs.Documents.{DoneAsDocument};
 ghost use Rattle.xml.specs.Means.{xml_events, xml_ending, xml_bytes, begun, begun_by};
 ghost use Rattle.xml.specs.Nesting.{xml_nested};
 
@@ -15,12 +14,12 @@ use sources::event::Event;
 use sources::source::Source;
 
 impl<'a> Xml<'a> {
-    /// A reader of the input.
+    /// A reader of the input, before any event. The input has one meaning, and is done exactly when it is a document.
+    #[tactic(auto, using(crate::proofs::Grammar::only_meaning, crate::proofs::Grammar::done_document))]
     pub fn new(input: &'a [u8]) -> Xml<'a>
-        ensures fresh { result.tags.rooted ≡ false }
-        ensures reads { Reads input.now 0 [] false (xml_bytes result) (xml_ending result) }
-        ensures done { xml_ending result ≡ None → Document input.now (xml_bytes result) }
-        ensures right { (es : List (Event (List ℕ))) → Document input.now es → (xml_bytes result ≡ es) × (xml_ending result ≡ None) }
+        ensures fresh { begun result ≡ false }
+        ensures meaning { MeansOnly (Reads input.now 0 [] false) (xml_bytes result) (xml_ending result) }
+        ensures document { DoneAsDocument input.now (xml_bytes result) (xml_ending result) }
     {
         Xml {
             tags: Tags::new(input),
