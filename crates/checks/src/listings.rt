@@ -131,35 +131,19 @@ fn cut_off(rt: HostRuntime) {
     }
 }
 
-fn fill_starts(part: &mut [u8]) {
-    for tag in part.chunks_exact_mut(3) {
-        tag.copy_from_slice(b"<a>");
+// As many start tags as elements can be open, and then the tag again and again.
+fn nest(input: &mut [u8], tag: &[u8; 4]) {
+    for (i, byte) in input.iter_mut().enumerate() {
+        *byte = if i < 384 { b"<a>"[i % 3] } else { tag[i % 4] };
     }
 }
 
-fn fill_ends(part: &mut [u8]) {
-    for tag in part.chunks_exact_mut(4) {
-        tag.copy_from_slice(b"</a>");
-    }
-}
-
-// A name as long as can be.
-#[test]
-fn long_names(rt: HostRuntime) {
-    let input = b"<a1234567890123456789012345678901></a1234567890123456789012345678901>";
-    assert_eq!(rt; drained(&mut Xml::new(input), MANY), (2, None));
-}
-
-// As many elements as can be open, and one more.
 #[test]
 fn levels(rt: HostRuntime) {
-    let mut input = [b' '; 896];
-    fill_starts(&mut input[..384]);
-    fill_ends(&mut input[384..]);
+    let mut input = [0; 896];
+    nest(&mut input, b"</a>");
     assert_eq!(rt; drained(&mut Xml::new(&input), MANY), (256, None));
-    input[384..388].copy_from_slice(b"<a/>");
-    refused(&rt, &input, 128, 35, 384);
-    input[385..].fill(b'a');
+    nest(&mut input, b"<a/>");
     refused(&rt, &input, 128, 35, 384);
 }
 
