@@ -2,7 +2,7 @@
 ghost use Rattle.std.specs.Prelude.{◌≡◌, ◌+◌, ◌<◌, ◌≤◌, length, drop, MatchResult, slice_index, not};
 ghost use Rattle.labels.specs.Spelling.{Longest};
 ghost use Rattle.xml.specs.Bytes.{apart};
-ghost use Rattle.xml.specs.Markup.{markup, behind, CommentEnds, IsComment, IsInstruction, CommentFault, InstructionFault};
+ghost use Rattle.xml.specs.Markup.{markup, CommentEnds, IsComment, IsInstruction, CommentFault, InstructionFault};
 ghost use Rattle.xml.specs.Inner.{Told, stop_markup, Steps, Refused, Passes};
 ghost use Rattle.xml.specs.declared.markup.Markup.TheVariants.{Comment, Instruction};
 
@@ -11,33 +11,24 @@ use crate::markup::{Markup, Stop};
 use labels::spelling::{is_white, rest, starts_name};
 use std::ops::ControlFlow;
 
-// Which markup `<` begins, by the bytes behind it.
-fn behind_bracket(rest: &[u8]) -> Markup
-    ensures { result ≡ behind rest.now }
-{
-    match rest {
-        [] => Markup::Cut,
-        [b'/', ..] => Markup::EndTag,
-        [b'!', b'-', b'-', ..] => Markup::Comment,
-        [b'!', ..] => Markup::Declaration,
-        [b'?', ..] => Markup::Instruction,
-        [b, ..] => {
-            if starts_name(*b) {
-                Markup::StartTag
-            } else {
-                Markup::Stray
-            }
-        }
-    }
-}
-
 // Which markup begins at the place.
 fn which(input: &[u8], at: usize) -> Markup
     ensures { result ≡ markup (drop at input.now) }
 {
     match rest(input, at) {
         [] => Markup::Nothing,
-        [b'<', behind @ ..] => behind_bracket(behind),
+        [b'<'] => Markup::Cut,
+        [b'<', b'/', ..] => Markup::EndTag,
+        [b'<', b'!', b'-', b'-', ..] => Markup::Comment,
+        [b'<', b'!', ..] => Markup::Declaration,
+        [b'<', b'?', ..] => Markup::Instruction,
+        [b'<', b, ..] => {
+            if starts_name(*b) {
+                Markup::StartTag
+            } else {
+                Markup::Stray
+            }
+        }
         [_, ..] => Markup::Text,
     }
 }
