@@ -19,7 +19,7 @@ use Rattle.xml.specs.declared.markup.Markup.{Markup}
 use Rattle.xml.specs.declared.markup.Markup.TheVariants.{Nothing, Text, EndTag, Comment, Declaration, Instruction, StartTag, Stray}
 use Rattle.xml.specs.declared.fault.XmlFault.{XmlFault}
 use Rattle.xml.proofs.Between.{found}
-use Rattle.xml.proofs.Once.{standing}
+use Rattle.xml.specs.ScanLaws.{standing}
 
 -- from the grammar to the reading
 module _ (xs : List ℕ) where
