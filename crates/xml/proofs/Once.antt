@@ -1,19 +1,12 @@
 -- A listing has one meaning.
-use Rattle.std.proofs.Common.{◌≡◌, ℕ, ◌+◌, ◌-◌, ◌<◌, ◌≤◌, Bool, true, false, cond, ◌||◌, eqb, ltb, ◌⊎◌, List, [], ◌∷◌, length, Some, None, Option, sym, refl, ap, ◌∙◌, subst, inl, inr, arith}
-use Rattle.std.proofs.lemmas.List.{get_or_past}
-use Rattle.std.proofs.lemmas.Bool.{cases_lt, cases_order, ne_eqb, eq-eqb, lt-ltb, le-ltb, or_parts, or_from, both_ways}
+use Rattle.std.proofs.Common.{◌≡◌, ℕ, ◌+◌, Bool, true, false, cond, eqb, List, [], ◌∷◌, Some, None, Option, sym, refl, ap, ◌∙◌, subst}
+use Rattle.std.proofs.lemmas.Bool.{both_ways}
 use Rattle.sources.specs.declared.event.Event.{Event}
 use Rattle.sources.specs.declared.event.Event.TheVariants.{Open, Close}
-use Rattle.labels.specs.Spelling.{byte, part, is_white, starts_name, Longest, Named, Spelled}
-use Rattle.xml.specs.Bytes.{plain}
+use Rattle.labels.specs.Spelling.{part}
 use Rattle.xml.specs.Faults.{number, place}
-use Rattle.xml.specs.Markup.{TagEnds, EndEnds, IsComment, IsInstruction, IsStart, IsEnd, NameFault, CommentFault, InstructionFault, TagFault, EndFault}
-use Rattle.xml.specs.Markup.NameFault.{ended as name_ended, no_start, long}
-use Rattle.xml.specs.Markup.CommentFault.{ended as comment_ended, byte_behind as comment_byte}
-use Rattle.xml.specs.Markup.InstructionFault.{ended as instruction_ended}
-use Rattle.xml.specs.Markup.TagFault.{ended as tag_ended, byte_behind as tag_byte, slash_ended, slash_byte, unclosed, opened as bracket_opened}
-use Rattle.xml.specs.Markup.EndFault.{ended as end_ended, byte_behind as end_byte}
-use Rattle.xml.specs.Reading.{levels, Room, Innermost, Found, Wrong, Finds, FindsAt, Reads}
+use Rattle.xml.specs.Markup.{TagEnds, EndEnds}
+use Rattle.xml.specs.Reading.{Innermost, Found, Wrong, ComesBefore, Finds, FindsAt, Reads}
 use Rattle.xml.specs.Reading.Found.{finishes, skips, opens, closes, refuses}
 use Rattle.xml.specs.Reading.Wrong.{unfinished, bare_text, bad_comment, bad_instruction, second_root, too_deep, start_name, start_rest, end_name, other_name, end_rest}
 use Rattle.xml.specs.Reading.Finds.{finish, text, comment, instruction, start, end_tag, faulty}
@@ -26,47 +19,34 @@ use Rattle.xml.specs.ScanLaws.{name_same, name_apart, comment_same, comment_apar
 use Rattle.xml.specs.FaultLaws.{no_second, no_deep, before_both}
 
 module _ (xs : List ℕ) (p : ℕ) (names : List (List ℕ)) (rooted : Bool) where
-  -- what is right is not wrong
-  abbrev Fails : Found → Type 0
-  Fails (refuses n at) = Unit {0}
-  Fails f = ⊥
-
-  fails : (k : Markup) (s : Found) (j to : ℕ) → Finds xs p names rooted k s → Wrong xs p names rooted k j to → Fails s
-  fails k s j to (finish a b) (unfinished c) = c a b
-  fails k s j to (text a) (bare_text c d) = both_ways _ d (a c)
-  fails k s j to (comment {q = q} a) (bad_comment c) = comment_apart xs p q j to a c
-  fails k s j to (instruction {q = q} a) (bad_instruction c) = instruction_apart xs p q j to a c
-  fails k s j to (start r a) (second_root e f) = no_second names rooted r e f
-  fails k s j to (start r a) (too_deep d) = no_deep names rooted r d
-  fails k s j to (start {n = n} r a) (start_name d) = name_apart xs (p + 1) n j to a.name d
-  fails k s j to (start {n = n} r a) (start_rest {n = m} b d) =
-      tag_apart xs m a.close j to (subst (λ x. TagEnds xs x a.close) (name_same xs (p + 1) n m a.name.0 b) a.tag) d
-  fails k s j to (end_tag {n = n} i a) (end_name d) = name_apart xs (p + 2) n j to a.name d
-  fails k s j to (end_tag {n = n} i a) (other_name {n = m} b ne) = ne (subst (λ x. Innermost names (part xs (p + 2) x)) (name_same xs (p + 2) n m a.name.0 b) i)
-  fails k s j to (end_tag {n = n} i a) (end_rest {n = m} b d) =
-      end_apart xs m a.close j to (subst (λ x. EndEnds xs x a.close) (name_same xs (p + 2) n m a.name.0 b) a.tag) d
-  fails k s j to (faulty w l) v = tt
+  -- where something is wrong, the first fault is found
+  told : (k : Markup) (s : Found) (n at : ℕ) → Finds xs p names rooted k s → Wrong xs p names rooted k n at →
+      ((j to : ℕ) → Wrong xs p names rooted k j to → ComesBefore n at j to) → s ≡ refuses n at
+  told k s n at (finish a b) (unfinished c) l = absurd (c a b)
+  told k s n at (text a) (bare_text c d) l = absurd (both_ways _ d (a c))
+  told k s n at (comment {q = q} a) (bad_comment c) l = absurd (comment_apart xs p q n at a c)
+  told k s n at (instruction {q = q} a) (bad_instruction c) l = absurd (instruction_apart xs p q n at a c)
+  told k s n at (start r a) (second_root e f) l = absurd (no_second names rooted r e f)
+  told k s n at (start r a) (too_deep d) l = absurd (no_deep names rooted r d)
+  told k s n at (start {n = m} r a) (start_name d) l = absurd (name_apart xs (p + 1) m n at a.name d)
+  told k s n at (start {n = m} r a) (start_rest {n = o} b d) l =
+      absurd (tag_apart xs o a.close n at (subst (λ x. TagEnds xs x a.close) (name_same xs (p + 1) m o a.name.0 b) a.tag) d)
+  told k s n at (end_tag {n = m} i a) (end_name d) l = absurd (name_apart xs (p + 2) m n at a.name d)
+  told k s n at (end_tag {n = m} i a) (other_name {n = o} b ne) l =
+      absurd (ne (subst (λ x. Innermost names (part xs (p + 2) x)) (name_same xs (p + 2) m o a.name.0 b) i))
+  told k s n at (end_tag {n = m} i a) (end_rest {n = o} b d) l =
+      absurd (end_apart xs o a.close n at (subst (λ x. EndEnds xs x a.close) (name_same xs (p + 2) m o a.name.0 b) a.tag) d)
+  told k s n at (faulty v m) w l = before_both _ _ n at (m n at w) (l _ _ v)
 
   finds_same : (k : Markup) (s t : Found) → Finds xs p names rooted k s → Finds xs p names rooted k t → s ≡ t
+  finds_same k s t (faulty w l) d = sym (told k t _ _ d w l)
+  finds_same k s t d (faulty w l) = told k s _ _ d w l
   finds_same k s t (finish a b) (finish c d) = refl
   finds_same k s t (text a) (text c) = refl
   finds_same k s t (comment a) (comment c) = ap skips (comment_same xs p _ _ a c)
   finds_same k s t (instruction a) (instruction c) = ap skips (instruction_same xs p _ _ a c)
   finds_same k s t (start r a) (start v b) = start_same xs p _ _ _ _ _ _ a b
   finds_same k s t (end_tag i a) (end_tag j b) = ap closes (close_same xs p _ _ _ _ a b)
-  finds_same k s t (finish a b) (faulty w l) = absurd (fails k s _ _ (finish a b) w)
-  finds_same k s t (text a) (faulty w l) = absurd (fails k s _ _ (text a) w)
-  finds_same k s t (comment a) (faulty w l) = absurd (fails k s _ _ (comment a) w)
-  finds_same k s t (instruction a) (faulty w l) = absurd (fails k s _ _ (instruction a) w)
-  finds_same k s t (start r a) (faulty w l) = absurd (fails k s _ _ (start r a) w)
-  finds_same k s t (end_tag i a) (faulty w l) = absurd (fails k s _ _ (end_tag i a) w)
-  finds_same k s t (faulty w l) (finish a b) = absurd (fails k t _ _ (finish a b) w)
-  finds_same k s t (faulty w l) (text a) = absurd (fails k t _ _ (text a) w)
-  finds_same k s t (faulty w l) (comment a) = absurd (fails k t _ _ (comment a) w)
-  finds_same k s t (faulty w l) (instruction a) = absurd (fails k t _ _ (instruction a) w)
-  finds_same k s t (faulty w l) (start r a) = absurd (fails k t _ _ (start r a) w)
-  finds_same k s t (faulty w l) (end_tag i a) = absurd (fails k t _ _ (end_tag i a) w)
-  finds_same k s t (faulty w l) (faulty v m) = before_both _ _ _ _ (l _ _ v) (m _ _ w)
 
 -- a fault by its number and place
 fault_of : ℕ → ℕ → XmlFault

@@ -129,7 +129,7 @@ pub start_at : (xs : List ℕ) (p : ℕ) (names : List (List ℕ)) (rooted : Boo
 start_at xs p names rooted t e b r d f =
     found xs p names rooted StartTag _ (sym b) (start r (record { name = d.spelled; close = d.close; tag = d.rest; ends = d.ends; slash = sym f ∙ d.slash }))
 
--- or one that is wrong
+-- a start tag with a fault
 pub start_fault : {xs : List ℕ} {p k at : ℕ} {names : List (List ℕ)} {rooted : Bool} → Room names rooted → StartFault xs (p + 1) k at →
     Finds xs p names rooted StartTag (refuses k at)
 start_fault r (in_name d) = start_named r d

@@ -13,7 +13,7 @@ use Rattle.xml.specs.Reading.Finds.{faulty}
 use Rattle.xml.specs.ScanLaws.{test_stands, name_same, name_long, name_apart, name_fault_same, comment_fault_same, instruction_fault_same, tag_fault_same, tag_late, end_fault_same, end_late}
 use Rattle.xml.specs.declared.markup.Markup.TheVariants.{Nothing, Text, EndTag, Comment, Declaration, Instruction, StartTag, Cut, Stray}
 
--- the same fault
+-- a fault comes before itself
 same_fault : (k at j to : ℕ) → refuses k at ≡ refuses j to → ComesBefore k at j to
 same_fault k at j to e =
     let a : k ≡ j = cc in
@@ -29,24 +29,25 @@ before_both k at j to (lower h) long_name = absurd (omega arith)
 before_both k at j to long_name (lower g) = absurd (omega arith)
 
 module _ (xs : List ℕ) where
-  -- a fault in a name comes before the faults behind the name
+  -- where there is a name, its only fault is to be too long: told at the name, it comes before all that is wrong behind the name
   name_first : (b n k at j to : ℕ) → NameFault xs b k at → Named xs b n → n ≤ to → ComesBefore k at j to
   name_first b n k at j to (name_ended h) d l = let s = test_stands xs b starts_name refl d.begins in absurd (omega arith)
   name_first b n k at j to (no_start h e) d l = absurd (both_ways _ e d.begins)
   name_first b n k at j to (long q m h) d l = let e = name_same xs b q n m d in lower (omega arith)
 
-  -- and before the fault that it is some other name
+  -- and before that the name is some other element's
   name_32 : (b n k at : ℕ) → NameFault xs b k at → Named xs b n → ComesBefore k at 33 b
   name_32 b n k at (name_ended h) d = let s = test_stands xs b starts_name refl d.begins in absurd (omega arith)
   name_32 b n k at (no_start h e) d = absurd (both_ways _ e d.begins)
   name_32 b n k at (long q m h) d = long_name
 
+  -- no fault of a name at b is told before b
   name_late : (b k at : ℕ) → b ≤ length xs → NameFault xs b k at → b ≤ at
   name_late b k at l (name_ended h) = l
   name_late b k at l (no_start h e) = omega arith
   name_late b k at l (long q m h) = omega arith
 
--- one of these alone can be wrong
+-- where one more element may begin, it is no second root and not too deep
 pub no_second : (names : List (List ℕ)) (rooted : Bool) → Room names rooted → names ≡ [] → rooted ≡ true → ⊥
 no_second names rooted r e t = both_ways _ (r.alone e) t
 
@@ -99,7 +100,7 @@ module _ {xs : List ℕ} {p : ℕ} {names : List (List ℕ)} {rooted : Bool} whe
       least : (j to : ℕ) → Wrong xs p names rooted Stray j to → ComesBefore 30 (p + 1) j to
       least j to no_markup = same
 
-  -- a fault at the place itself comes before those of the tag
+  -- what is wrong at p itself comes first, since the listing ends behind p
   pub second : p < length xs → names ≡ [] → rooted ≡ true → Finds xs p names rooted StartTag (refuses 30 p)
   second l e r = faulty (second_root e r) least
     where

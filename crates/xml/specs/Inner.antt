@@ -34,7 +34,7 @@ CloseMissing xs p (Byte c) = (c ≡ p) × (p < length xs) × (byte xs p ≢ 62)
 CloseMissing xs p (End c) = (length xs ≤ p) × (c ≡ length xs)
 CloseMissing xs p (LongName c) = ⊥
 
--- what is wrong with a start tag whose name begins at b: with its name, or with the rest
+-- what is wrong with a start tag whose name begins at b
 pub data StartFault (xs : List ℕ) (b : ℕ) : ℕ → ℕ → Type 0 where
   in_name : {k at : ℕ} → NameFault xs b k at → StartFault xs b k at
   in_rest : {k at : ℕ} (n : ℕ) → Spelled xs b n → TagFault xs n k at → StartFault xs b k at

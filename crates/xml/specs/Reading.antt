@@ -55,7 +55,7 @@ pub data Found : Type 0 where
   closes : ℕ → Found
   refuses : ℕ → ℕ → Found
 
--- by the same, with the fault that comes before all that is wrong there
+-- by the markup, the names and the root as above; a fault is found if it comes before all that is wrong there
 pub data Finds (xs : List ℕ) (p : ℕ) (names : List (List ℕ)) (rooted : Bool) : Markup → Found → Type 0 where
   finish : names ≡ [] → rooted ≡ true → Finds xs p names rooted Nothing finishes
   text : (names ≡ [] → is_white (byte xs p) ≡ true) → Finds xs p names rooted Text (skips (p + 1))

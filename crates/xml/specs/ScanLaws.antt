@@ -160,6 +160,9 @@ module _ (xs : List ℕ) where
       let g = a.closes in
       omega arith
 
+  no_47 : (b : ℕ) → (is_white b || eqb b 62) ≡ true → eqb b 47 ≡ false
+  no_47 b h = ne_eqb b 47 (λ e. both_ways _ refl (sym (ap (λ x. is_white x || eqb x 62) e) ∙ h))
+
   -- the fault of a tag, by the first bracket c
   abbrev tag_code : ℕ → ℕ → Found
   tag_code n c =
@@ -167,9 +170,6 @@ module _ (xs : List ℕ) where
       (cond (eqb (byte xs n) 47) (cond (ltb (n + 1) (length xs)) (refuses 30 (n + 1)) (refuses 31 (length xs)))
       (cond (is_white (byte xs n) || eqb (byte xs n) 62) (cond (ltb c (length xs)) (refuses 30 c) (refuses 31 (length xs))) (refuses 30 n)))
       (refuses 31 (length xs))
-
-  no_47 : (b : ℕ) → (is_white b || eqb b 62) ≡ true → eqb b 47 ≡ false
-  no_47 b h = ne_eqb b 47 (λ e. both_ways _ refl (sym (ap (λ x. is_white x || eqb x 62) e) ∙ h))
 
   tag_coded : (n c k at : ℕ) → Longest (λ i. plain (byte xs i)) (length xs) n c → TagFault xs n k at → refuses k at ≡ tag_code n c
   tag_coded n c k at m (tag_ended h) = rw (le-ltb n (length xs) h)
@@ -200,6 +200,7 @@ module _ (xs : List ℕ) where
       let l = longest (λ i. plain (byte xs i)) (length xs) n h in
       tag_coded n l.0 k at l.1 a ∙ sym (tag_coded n l.0 j to l.1 b)
 
+  -- nor is this one
   pub tag_late : (n k at : ℕ) → n ≤ length xs → TagFault xs n k at → n ≤ at
   tag_late n k at h (tag_ended l) = h
   tag_late n k at h (tag_byte l e) = omega arith
