@@ -5,7 +5,8 @@ use Rattle.labels.specs.Spelling.{byte, is_white}
 use Rattle.xml.specs.Faults.{scan_number, scan_place}
 use Rattle.xml.specs.Markup.{markup, IsComment, IsInstruction, CommentFault, InstructionFault}
 use Rattle.xml.specs.Reading.{Found, Finds, FindsAt}
-use Rattle.xml.specs.Reading.Finds.{text, no_text, comment, comment_fault, instruction, instruction_fault, declaration, cut, stray}
+use Rattle.xml.specs.Reading.Finds.{text, comment, instruction}
+use Rattle.xml.specs.FaultLaws.{no_text, comment_fault, instruction_fault, declaration, cut, stray}
 use Rattle.xml.specs.Inner.{stop_markup, some, GoesBy, Refused}
 use Rattle.xml.specs.declared.markup.Stop.{Stop}
 use Rattle.xml.specs.declared.markup.Markup.{Markup}

@@ -11,7 +11,7 @@ use Rattle.xml.specs.Inner.{Told, CloseMissing}
 use Rattle.xml.specs.Shapes.{slash_tag, bracket_tag, no_close}
 use Rattle.xml.specs.declared.fault.ScanFault.{ScanFault}
 use Rattle.xml.specs.declared.fault.ScanFault.TheVariants.{Byte, End, LongName}
-use Rattle.xml.proofs.Once.{standing}
+use Rattle.xml.specs.ScanLaws.{standing}
 
 -- where a search for the first place that fails the test ends
 pub first_runs : (ok : ℕ → Bool) (end p : ℕ) (r : Option ℕ) →

@@ -22,7 +22,8 @@ use Rattle.xml.specs.declared.markup.Markup.{Markup}
 use Rattle.xml.specs.declared.markup.Markup.TheVariants.{Nothing, Text, EndTag, Comment, Declaration, Instruction, StartTag, Stray}
 use Rattle.xml.specs.declared.fault.XmlFault.{XmlFault}
 use Rattle.xml.proofs.Between.{found}
-use Rattle.xml.proofs.Once.{standing, once}
+use Rattle.xml.specs.ScanLaws.{standing}
+use Rattle.xml.proofs.Once.{once}
 
 -- the events of a tree and of those behind it
 tree_events : (w : List ℕ) (inside trees : Forest (List ℕ)) (ds : List (Event (List ℕ))) →

@@ -23,7 +23,9 @@ use Rattle.std.proofs.lemmas.Bool.Decides.{Decides-eqb}
 use Rattle.std.specs.Str.{bytes_eq}
 use Rattle.std.proofs.lemmas.Bool.{cases_Bool, both_ways, ne_eqb}
 use Rattle.xml.specs.Means.{labelled, open_names, tags_names, tags_meaning}
-use Rattle.xml.specs.Inner.{some, Tagged, Passes, tags_ending, handed, Gives, Refuses, RootNamed, RootFails}
+use Rattle.xml.specs.FaultLaws.{start_named, start_rested}
+use Rattle.xml.specs.Inner.{some, StartFault, Tagged, Passes, tags_ending, handed, Gives, Refuses, RootNamed, RootFails}
+use Rattle.xml.specs.Inner.StartFault.{in_name, in_rest}
 use Rattle.xml.specs.Inner.Passes.{here, on}
 use Rattle.labels.specs.declared.name.Name.{Name}
 use Rattle.xml.specs.declared.fault.XmlFault.{XmlFault}
@@ -126,6 +128,12 @@ pub start_at : (xs : List ℕ) (p : ℕ) (names : List (List ℕ)) (rooted : Boo
     (d : Tagged xs (p + 1) t) → t.empty ≡ e → FindsAt xs p names rooted (opens d.stop t.end e)
 start_at xs p names rooted t e b r d f =
     found xs p names rooted StartTag _ (sym b) (start r (record { name = d.spelled; close = d.close; tag = d.rest; ends = d.ends; slash = sym f ∙ d.slash }))
+
+-- a start tag with a fault
+pub start_fault : {xs : List ℕ} {p k at : ℕ} {names : List (List ℕ)} {rooted : Bool} → Room names rooted → StartFault xs (p + 1) k at →
+    Finds xs p names rooted StartTag (refuses k at)
+start_fault r (in_name d) = start_named r d
+start_fault r (in_rest n s d) = start_rested n r s d
 
 -- an end tag that closes the innermost element
 pub end_at : (xs : List ℕ) (p : ℕ) (names : List (List ℕ)) (rooted : Bool) (n q : ℕ) → markup (drop p xs) ≡ EndTag → Innermost names (part xs (p + 2) n) →

@@ -5,7 +5,7 @@ use Rattle.labels.specs.declared.name.Name.{Name}
 use Rattle.sources.specs.declared.event.Event.{Event}
 use Rattle.sources.specs.declared.event.Event.TheVariants.{Open, Close}
 use Rattle.xml.specs.Faults.{scan_number, scan_place, number, place}
-use Rattle.xml.specs.Markup.{markup, TagEnds}
+use Rattle.xml.specs.Markup.{markup, TagEnds, NameFault, TagFault}
 use Rattle.xml.specs.Reading.{Finds, FindsAt}
 use Rattle.xml.specs.Reading.Found.{skips, refuses}
 use Rattle.xml.specs.Total.{reading}
@@ -33,6 +33,11 @@ abbrev pub CloseMissing : List ℕ → ℕ → ScanFault → Type 0
 CloseMissing xs p (Byte c) = (c ≡ p) × (p < length xs) × (byte xs p ≢ 62)
 CloseMissing xs p (End c) = (length xs ≤ p) × (c ≡ length xs)
 CloseMissing xs p (LongName c) = ⊥
+
+-- what is wrong with a start tag whose name begins at b
+pub data StartFault (xs : List ℕ) (b : ℕ) : ℕ → ℕ → Type 0 where
+  in_name : {k at : ℕ} → NameFault xs b k at → StartFault xs b k at
+  in_rest : {k at : ℕ} (n : ℕ) → Spelled xs b n → TagFault xs n k at → StartFault xs b k at
 
 -- a start tag whose name begins at b
 pub record Tagged (xs : List ℕ) (b : ℕ) (t : Opening) : Type 0 where

@@ -3,6 +3,8 @@ pub mod Bytes
 pub mod Markup
 pub mod Shapes
 pub mod Reading
+pub mod ScanLaws
+pub mod FaultLaws
 pub mod Total
 pub mod Documents
 pub mod Means

@@ -90,11 +90,6 @@ pub data TagFault (xs : List ℕ) (n : ℕ) : ℕ → ℕ → Type 0 where
   unclosed : (is_white (byte xs n) || byte xs n == 62) ≡ true → Longest (λ i. plain (byte xs i)) (length xs) n (length xs) → TagFault xs n 31 (length xs)
   opened : (c : ℕ) → (is_white (byte xs n) || byte xs n == 62) ≡ true → Longest (λ i. plain (byte xs i)) (length xs) n c → byte xs c ≡ 60 → TagFault xs n 30 c
 
--- with a start tag whose name begins at b
-pub data StartFault (xs : List ℕ) (b : ℕ) : ℕ → ℕ → Type 0 where
-  in_name : {k at : ℕ} → NameFault xs b k at → StartFault xs b k at
-  in_rest : {k at : ℕ} (n : ℕ) → Spelled xs b n → TagFault xs n k at → StartFault xs b k at
-
 -- with the rest of an end tag
 pub data EndFault (xs : List ℕ) (n : ℕ) : ℕ → ℕ → Type 0 where
   ended : Longest (λ i. is_white (byte xs i)) (length xs) n (length xs) → EndFault xs n 31 (length xs)

@@ -2,9 +2,9 @@
 use Rattle.std.specs.Prelude.{◌≡◌, ℕ, ◌+◌, ◌<◌, ◌≤◌, Bool, true, false, List, [], ◌∷◌, length, drop, Some, None, Option, ◌≢◌}
 use Rattle.sources.specs.declared.event.Event.{Event}
 use Rattle.sources.specs.declared.event.Event.TheVariants.{Open, Close}
-use Rattle.labels.specs.Spelling.{byte, part, is_white, Spelled}
+use Rattle.labels.specs.Spelling.{byte, part, is_white, Named}
 use Rattle.xml.specs.Faults.{number, place}
-use Rattle.xml.specs.Markup.{markup, IsComment, IsInstruction, IsStart, IsEnd, NameFault, CommentFault, InstructionFault, StartFault, EndFault}
+use Rattle.xml.specs.Markup.{markup, IsComment, IsInstruction, IsStart, IsEnd, NameFault, CommentFault, InstructionFault, TagFault, EndFault}
 use Rattle.xml.specs.declared.markup.Markup.{Markup}
 use Rattle.xml.specs.declared.markup.Markup.TheVariants.{Nothing, Text, EndTag, Comment, Declaration, Instruction, StartTag, Cut, Stray}
 use Rattle.xml.specs.declared.fault.XmlFault.{XmlFault}
@@ -23,6 +23,30 @@ abbrev pub Innermost : List (List ℕ) → List ℕ → Type 0
 Innermost [] w = ⊥
 Innermost (n ∷ ns) w = w ≡ n
 
+-- What is wrong at a place, each fault for itself, with its number and place: by the markup that begins there, the names of the
+-- open elements, innermost first, and whether a root was there
+pub data Wrong (xs : List ℕ) (p : ℕ) (names : List (List ℕ)) (rooted : Bool) : Markup → ℕ → ℕ → Type 0 where
+  unfinished : (names ≡ [] → rooted ≢ true) → Wrong xs p names rooted Nothing 31 (length xs)
+  bare_text : names ≡ [] → is_white (byte xs p) ≡ false → Wrong xs p names rooted Text 30 p
+  bad_comment : {k at : ℕ} → CommentFault xs (p + 4) k at → Wrong xs p names rooted Comment k at
+  bad_instruction : {k at : ℕ} → InstructionFault xs p k at → Wrong xs p names rooted Instruction k at
+  no_comment : Wrong xs p names rooted Declaration 34 p
+  cut_short : Wrong xs p names rooted Cut 31 (length xs)
+  no_markup : Wrong xs p names rooted Stray 30 (p + 1)
+  second_root : names ≡ [] → rooted ≡ true → Wrong xs p names rooted StartTag 30 p
+  too_deep : levels ≤ length names → Wrong xs p names rooted StartTag 35 p
+  start_name : {k at : ℕ} → NameFault xs (p + 1) k at → Wrong xs p names rooted StartTag k at
+  start_rest : {k at n : ℕ} → Named xs (p + 1) n → TagFault xs n k at → Wrong xs p names rooted StartTag k at
+  end_name : {k at : ℕ} → NameFault xs (p + 2) k at → Wrong xs p names rooted EndTag k at
+  other_name : {n : ℕ} → Named xs (p + 2) n → (Innermost names (part xs (p + 2) n) → ⊥) → Wrong xs p names rooted EndTag 33 (p + 2)
+  end_rest : {k at n : ℕ} → Named xs (p + 2) n → EndFault xs n k at → Wrong xs p names rooted EndTag k at
+
+-- The order in which faults are told: the lowest place first, and at one place 32 before 33
+pub data ComesBefore : ℕ → ℕ → ℕ → ℕ → Type 0 where
+  same : {k at : ℕ} → ComesBefore k at k at
+  lower : {k at j to : ℕ} → at < to → ComesBefore k at j to
+  long_name : {at : ℕ} → ComesBefore 32 at 33 at
+
 -- What is found at a place: the end, something to skip, a start tag with the end of its name, an end tag, or the first fault
 pub data Found : Type 0 where
   finishes : Found
@@ -31,27 +55,16 @@ pub data Found : Type 0 where
   closes : ℕ → Found
   refuses : ℕ → ℕ → Found
 
--- by the markup that begins there, the names of the open elements, innermost first, and whether a root was there
+-- by the markup, the names and the root as above; a fault is found if it comes before all that is wrong there
 pub data Finds (xs : List ℕ) (p : ℕ) (names : List (List ℕ)) (rooted : Bool) : Markup → Found → Type 0 where
   finish : names ≡ [] → rooted ≡ true → Finds xs p names rooted Nothing finishes
-  early : (names ≡ [] → rooted ≢ true) → Finds xs p names rooted Nothing (refuses 31 (length xs))
   text : (names ≡ [] → is_white (byte xs p) ≡ true) → Finds xs p names rooted Text (skips (p + 1))
-  no_text : names ≡ [] → is_white (byte xs p) ≡ false → Finds xs p names rooted Text (refuses 30 p)
   comment : {q : ℕ} → IsComment xs p q → Finds xs p names rooted Comment (skips q)
-  comment_fault : {k at : ℕ} → CommentFault xs (p + 4) k at → Finds xs p names rooted Comment (refuses k at)
   instruction : {q : ℕ} → IsInstruction xs p q → Finds xs p names rooted Instruction (skips q)
-  instruction_fault : {k at : ℕ} → InstructionFault xs p k at → Finds xs p names rooted Instruction (refuses k at)
-  declaration : Finds xs p names rooted Declaration (refuses 34 p)
-  cut : Finds xs p names rooted Cut (refuses 31 (length xs))
-  stray : Finds xs p names rooted Stray (refuses 30 (p + 1))
   start : {n q : ℕ} {empty : Bool} → Room names rooted → IsStart xs p n q empty → Finds xs p names rooted StartTag (opens n q empty)
-  second_root : names ≡ [] → rooted ≡ true → Finds xs p names rooted StartTag (refuses 30 p)
-  deep : levels ≤ length names → Finds xs p names rooted StartTag (refuses 35 p)
-  start_fault : {k at : ℕ} → Room names rooted → StartFault xs (p + 1) k at → Finds xs p names rooted StartTag (refuses k at)
   end_tag : {n q : ℕ} → Innermost names (part xs (p + 2) n) → IsEnd xs p n q → Finds xs p names rooted EndTag (closes q)
-  end_name : {k at : ℕ} → NameFault xs (p + 2) k at → Finds xs p names rooted EndTag (refuses k at)
-  wrong_name : (n : ℕ) → Spelled xs (p + 2) n → (Innermost names (part xs (p + 2) n) → ⊥) → Finds xs p names rooted EndTag (refuses 33 (p + 2))
-  end_fault : {k at : ℕ} (n : ℕ) → Spelled xs (p + 2) n → Innermost names (part xs (p + 2) n) → EndFault xs n k at → Finds xs p names rooted EndTag (refuses k at)
+  faulty : {k : Markup} {n at : ℕ} → Wrong xs p names rooted k n at → ((j to : ℕ) → Wrong xs p names rooted k j to → ComesBefore n at j to) →
+      Finds xs p names rooted k (refuses n at)
 
 abbrev pub FindsAt : List ℕ → ℕ → List (List ℕ) → Bool → Found → Type 0
 FindsAt xs p names rooted f = Finds xs p names rooted (markup (drop p xs)) f

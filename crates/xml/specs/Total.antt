@@ -16,35 +16,18 @@ use Rattle.xml.specs.Markup.NameFault.{ended as name_ended, no_start, long}
 use Rattle.xml.specs.Markup.CommentFault.{ended as comment_ended, byte_behind as comment_byte}
 use Rattle.xml.specs.Markup.InstructionFault.{ended as instruction_ended}
 use Rattle.xml.specs.Markup.TagFault.{ended as tag_ended, byte_behind as tag_byte, slash_ended, slash_byte, unclosed, opened as bracket_opened}
-use Rattle.xml.specs.Markup.StartFault.{in_name, in_rest}
 use Rattle.xml.specs.Markup.EndFault.{ended as end_ended, byte_behind as end_byte}
 use Rattle.xml.specs.Reading.{levels, Room, Innermost, Finds, Reads}
 use Rattle.xml.specs.Reading.Found.{finishes, skips, opens, closes, refuses}
-use Rattle.xml.specs.Reading.Finds.{finish, early, text, no_text, comment, comment_fault, instruction, instruction_fault, declaration, cut, stray, start, second_root, deep, start_fault, end_tag, end_name, wrong_name, end_fault}
+use Rattle.xml.specs.Reading.Finds.{finish, text, comment, instruction, start, end_tag}
 use Rattle.xml.specs.Reading.Reads.{done, refused, skipped, opened, opened_empty, closed}
+use Rattle.xml.specs.ScanLaws.{longest}
+use Rattle.xml.specs.FaultLaws.{early, no_text, comment_fault, instruction_fault, declaration, cut, stray, second, deep, start_named, start_rested, end_named, wrong_name, end_fault}
 use Rattle.xml.specs.declared.markup.Markup.{Markup}
 use Rattle.xml.specs.declared.markup.Markup.TheVariants.{Nothing, Text, EndTag, Comment, Declaration, Instruction, StartTag, Cut, Stray}
 use Rattle.xml.specs.declared.fault.ScanFault.TheVariants.{Byte, End, LongName}
 use Rattle.xml.specs.declared.fault.XmlFault.{XmlFault}
 use Rattle.xml.specs.declared.fault.XmlFault.TheVariants.{Scan, WrongName, NotComment, Deep}
-
-longest_by : (ok : ℕ → Bool) (end n p : ℕ) → p + n ≡ end → (q : ℕ) × Longest ok end p q
-longest_by ok end zero p e = (p, record { late = omega arith; within = omega arith; all = λ i a b. absurd (omega arith); stops = λ h. absurd (omega arith) })
-longest_by ok end (suc n) p e = go (cases_Bool (ok p)) (longest_by ok end n (p + 1) (omega arith))
-  where
-    go : ((ok p ≡ true) ⊎ (ok p ≡ false)) → ((q : ℕ) × Longest ok end (p + 1) q) → (q : ℕ) × Longest ok end p q
-    go (inr h) r = (p, record { late = omega arith; within = omega arith; all = λ i a b. absurd (omega arith); stops = λ _. h })
-    go (inl h) (q, l) =
-        let late = l.late in
-        let none : (i : ℕ) → p ≤ i → i < p → ok i ≡ true = λ i a b. absurd (omega arith) in
-        (q, record { late = omega arith; within = l.within; all = λ i a b. both i a b (cases_lt i (p + 1)); stops = l.stops })
-      where
-        both : (i : ℕ) → p ≤ i → i < q → ((i < p + 1) ⊎ (p + 1 ≤ i)) → ok i ≡ true
-        both i a b (inl c) = let s : p ≡ i = omega arith in subst (λ j. ok j ≡ true) s h
-        both i a b (inr c) = l.all i c b
-
-pub longest : (ok : ℕ → Bool) (end p : ℕ) → p ≤ end → (q : ℕ) × Longest ok end p q
-longest ok end p h = longest_by ok end (end - p) p (omega arith)
 
 -- a complete production, or what is wrong with it
 data Outcome (Good : ℕ → Type 0) (Bad : ℕ → ℕ → Type 0) : Type 0 where
@@ -214,26 +197,26 @@ module _ (xs : List ℕ) (p : ℕ) (names : List (List ℕ)) (rooted : Bool) whe
       go (good q d) = let e = d.ends in let l = d.first.late in skip q (omega arith) (instruction d)
       go (bad f d) = fault f (instruction_fault d)
 
-  at_start : Next xs p names rooted StartTag
-  at_start = go (cases_nil names) (cases_Bool rooted) (cases_lt (length names) levels)
+  at_start : p + 2 ≤ length xs → Next xs p names rooted StartTag
+  at_start h = go (cases_nil names) (cases_Bool rooted) (cases_lt (length names) levels)
     where
       tag : Room names rooted → (n : ℕ) → Spelled xs (p + 1) n → Outcome (TagEnds xs n) (TagFault xs n) → Next xs p names rooted StartTag
       tag r n s (good c d) =
           let l = s.0.ends.late in
           let m = d.rest.late in
           enter n (c + 1) (byte xs (c - 1) == 47) (omega arith) (start r (record { name = s; close = c; tag = d; ends = refl; slash = refl }))
-      tag r n s (bad f d) = fault f (start_fault r (in_rest n s d))
+      tag r n s (bad f d) = fault f (start_rested n r s d)
 
       named : Room names rooted → Outcome (Spelled xs (p + 1)) (NameFault xs (p + 1)) → Next xs p names rooted StartTag
       named r (good n s) = tag r n s (some_tag xs n)
-      named r (bad f d) = fault f (start_fault r (in_name d))
+      named r (bad f d) = fault f (start_named r d)
 
       go : ((names ≡ []) ⊎ (names ≢ [])) → ((rooted ≡ true) ⊎ (rooted ≡ false)) → ((length names < levels) ⊎ (levels ≤ length names)) → Next xs p names rooted StartTag
-      go (inl e) (inl r) d = fault (Scan (Byte p)) (second_root e r)
+      go (inl e) (inl r) d = fault (Scan (Byte p)) (second (omega arith) e r)
       go (inl e) (inr r) (inl f) = named (record { alone = λ _. r; few = f }) (some_name xs (p + 1))
-      go (inl e) (inr r) (inr d) = fault (Deep p) (deep d)
+      go (inl e) (inr r) (inr d) = fault (Deep p) (deep (omega arith) d)
       go (inr ne) r (inl f) = named (record { alone = λ e. absurd (ne e); few = f }) (some_name xs (p + 1))
-      go (inr ne) r (inr d) = fault (Deep p) (deep d)
+      go (inr ne) r (inr d) = fault (Deep p) (deep (omega arith) d)
 
   at_close : Next xs p names rooted EndTag
   at_close = named (some_name xs (p + 2))
@@ -251,7 +234,7 @@ module _ (xs : List ℕ) (p : ℕ) (names : List (List ℕ)) (rooted : Bool) whe
 
       named : Outcome (Spelled xs (p + 2)) (NameFault xs (p + 2)) → Next xs p names rooted EndTag
       named (good n s) = same n s (cases_innermost names (part xs (p + 2) n))
-      named (bad f d) = fault f (end_name d)
+      named (bad f d) = fault f (end_named d)
 
   at_kind : (k : Markup) → markup (drop p xs) ≡ k → Next xs p names rooted k
   at_kind Nothing e = at_end
@@ -260,7 +243,7 @@ module _ (xs : List ℕ) (p : ℕ) (names : List (List ℕ)) (rooted : Bool) whe
   at_kind Comment e = at_comment (reaches xs p Comment e (omega arith))
   at_kind Declaration e = fault (NotComment p) declaration
   at_kind Instruction e = at_instruction (reaches xs p Instruction e (omega arith))
-  at_kind StartTag e = at_start
+  at_kind StartTag e = at_start (reaches xs p StartTag e (omega arith))
   at_kind Cut e = fault (Scan (End (length xs))) cut
   at_kind Stray e = fault (Scan (Byte (p + 1))) stray
 

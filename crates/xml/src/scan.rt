@@ -3,8 +3,8 @@
 ghost use Rattle.std.specs.Prelude.{◌≡◌, ◌≤◌, length, MatchResult};
 ghost use Rattle.labels.specs.Spelling.{byte, Longest, Spelled};
 ghost use Rattle.xml.specs.Bytes.{plain};
-ghost use Rattle.xml.specs.Markup.{TagEnds, EndEnds, NameFault, TagFault, StartFault, EndFault};
-ghost use Rattle.xml.specs.Inner.{Told, CloseMissing, Tagged};
+ghost use Rattle.xml.specs.Markup.{TagEnds, EndEnds, NameFault, TagFault, EndFault};
+ghost use Rattle.xml.specs.Inner.{Told, CloseMissing, StartFault, Tagged};
 
 use crate::fault::ScanFault;
 use labels::spelling;

@@ -58,8 +58,9 @@ impl<'a> Tags<'a> {
         }
     }
 
-    // Whether one more element may begin at the place.
+    // Whether one more element may begin with the start tag at the place.
     fn room(&self) -> Result<(), XmlFault>
+        requires { markup (drop self.now.place self.now.input.now) ≡ StartTag }
         ensures { MatchResult result (λ _. Room (tags_names self.now) self.now.rooted) (NoRoom self.now) }
     {
         if self.opened.is_empty() && self.rooted {

@@ -1,12 +1,13 @@
 use Rattle.std.proofs.Common.{◌+◌, false, [], length, refl}
 use Rattle.std.proofs.lemmas.Result.{err_from_is_err_and}
 use Rattle.std.proofs.lemmas.Bool.{both_ways}
-use Rattle.xml.specs.Reading.Finds.{early, start, start_fault, end_name, wrong_name}
+use Rattle.xml.specs.Reading.Finds.{start}
+use Rattle.xml.specs.FaultLaws.{early, end_named, wrong_name}
 use Rattle.xml.specs.declared.markup.Stop.TheVariants.{StartTag, EndTag, End as at_end}
 use Rattle.xml.specs.declared.fault.ScanFault.TheVariants.{End}
 use Rattle.xml.specs.declared.fault.XmlFault.TheVariants.{Scan, WrongName}
 use Rattle.xml.proofs.Between.{found_at}
-use Rattle.xml.proofs.Steps.{root_fails, root_named, root_room}
+use Rattle.xml.proofs.Steps.{start_fault, root_fails, root_named, root_room}
 use Rattle.xml.proofs.look.root_name.Goals as goal
 
 pub returns-in_err-stop : goal.returns-in_err-stop
@@ -30,7 +31,7 @@ returns-in_err-name_end-in-EndTag c =
     let f = c.in_ok-stop.ensures.found in
     let p = err_from_is_err_and c.from_residual-in_err-name_end-in-EndTag.result c.from_residual-in_err-name_end-in-EndTag.ensures.1 in
     rw (p.1, p.2) (root_fails _ _ _ (Scan c.in_err-name_end-in-EndTag.field-0.0) c.skip.ensures.passes
-    (found_at xs q [] false _ EndTag _ c.in-EndTag.is f (end_name c.in_err-name_end-in-EndTag.ensures)))
+    (found_at xs q [] false _ EndTag _ c.in-EndTag.is f (end_named c.in_err-name_end-in-EndTag.ensures)))
 
 pub returns-in_ok-start_tag-in-StartTag : goal.returns-in_ok-start_tag-in-StartTag
 returns-in_ok-start_tag-in-StartTag c =

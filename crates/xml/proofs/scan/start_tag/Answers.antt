@@ -1,5 +1,5 @@
 use Rattle.std.proofs.lemmas.Result.{err_from_is_err_and}
-use Rattle.xml.specs.Markup.StartFault.{in_name, in_rest}
+use Rattle.xml.specs.Inner.StartFault.{in_name, in_rest}
 use Rattle.xml.proofs.scan.start_tag.Goals as goal
 
 pub returns-in_err-name_end : goal.returns-in_err-name_end

@@ -2,7 +2,7 @@ use Rattle.std.proofs.Common.{◌≡◌, ℕ, ◌+◌, sym, inl, inr, arith}
 use Rattle.std.proofs.lemmas.Result.{err_from_is_err_and}
 use Rattle.xml.specs.Shapes.{reaches}
 use Rattle.xml.specs.declared.markup.Markup.TheVariants.{Text}
-use Rattle.xml.proofs.Once.{standing}
+use Rattle.xml.specs.ScanLaws.{standing}
 use Rattle.xml.proofs.Between.{text_by, text_no, comment_by, comment_no, instruction_by, instruction_no, declaration_no, cut_no, stray_no}
 use Rattle.xml.proofs.skip.skip_one.Goals as goal
 use Rattle.xml.proofs.skip.skip_one.Goals.{then-inside, else-inside}

@@ -2,12 +2,11 @@ use Rattle.std.proofs.Common.{true, false, ◌∷◌, sym, refl, ap, ◌∙◌}
 use Rattle.std.proofs.lemmas.Result.{err_from_is_err_and}
 use Rattle.labels.specs.NameOf.{name_of}
 use Rattle.xml.specs.Means.{open_names, tags_names}
-use Rattle.xml.specs.Reading.Finds.{start_fault}
 use Rattle.xml.specs.declared.markup.Markup.TheVariants.{StartTag}
 use Rattle.xml.specs.declared.fault.XmlFault.TheVariants.{Scan}
 use Rattle.xml.specs.declared.tags.Tag.TheVariants.{Open, Empty}
 use Rattle.xml.proofs.Between.{found}
-use Rattle.xml.proofs.Steps.{start_at, fault_refuses, moves_give, opens_moves, empty_moves, push_names}
+use Rattle.xml.proofs.Steps.{start_at, start_fault, fault_refuses, moves_give, opens_moves, empty_moves, push_names}
 use Rattle.xml.proofs.reader.Tags.enter.Goals as goal
 
 pub returns-in_err-room : goal.returns-in_err-room

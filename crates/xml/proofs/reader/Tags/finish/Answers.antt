@@ -1,7 +1,8 @@
 use Rattle.std.proofs.Common.{◌≡◌, true, [], length, sym, ap, ◌∙◌}
 use Rattle.std.proofs.lemmas.Bool.{both_ways, eqb-true, eqb-false}
 use Rattle.xml.specs.Means.{tags_names}
-use Rattle.xml.specs.Reading.Finds.{finish, early}
+use Rattle.xml.specs.Reading.Finds.{finish}
+use Rattle.xml.specs.FaultLaws.{early}
 use Rattle.xml.specs.declared.markup.Markup.TheVariants.{Nothing}
 use Rattle.xml.specs.declared.fault.ScanFault.TheVariants.{End}
 use Rattle.xml.specs.declared.fault.XmlFault.TheVariants.{Scan}

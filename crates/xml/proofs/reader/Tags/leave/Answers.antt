@@ -2,11 +2,11 @@ use Rattle.std.proofs.Common.{◌+◌, ◌<◌, length, sym, refl, ap, arith, le
 use Rattle.std.proofs.lemmas.Result.{err_from_is_err_and}
 use Rattle.std.proofs.lemmas.Bool.{both_ways}
 use Rattle.xml.specs.Means.{tags_names}
-use Rattle.xml.specs.Reading.Finds.{end_name, wrong_name, end_fault}
+use Rattle.xml.specs.FaultLaws.{end_named, wrong_name, end_fault}
 use Rattle.xml.specs.declared.markup.Markup.TheVariants.{EndTag}
 use Rattle.xml.specs.declared.fault.XmlFault.TheVariants.{Scan, WrongName}
 use Rattle.xml.specs.declared.tags.Tag.TheVariants.{Close}
-use Rattle.xml.proofs.Once.{standing}
+use Rattle.xml.specs.ScanLaws.{standing}
 use Rattle.xml.proofs.Between.{found}
 use Rattle.xml.proofs.Steps.{end_at, fault_refuses, moves_give, closes_moves, pop_names, length_names, open_found, begun_open}
 use Rattle.xml.proofs.reader.Tags.leave.Goals as goal
@@ -14,7 +14,7 @@ use Rattle.xml.proofs.reader.Tags.leave.Goals as goal
 pub returns-in_err-name : goal.returns-in_err-name
 returns-in_err-name c =
     let p = err_from_is_err_and c.from_residual.result c.from_residual.ensures.1 in
-    rw (p.1, p.2) (fault_refuses c.args.self.now (Scan c.in_err-name.field-0.0) (found _ _ _ _ EndTag _ (sym c.requires) (end_name c.in_err-name.ensures)))
+    rw (p.1, p.2) (fault_refuses c.args.self.now (Scan c.in_err-name.field-0.0) (found _ _ _ _ EndTag _ (sym c.requires) (end_named c.in_err-name.ensures)))
 
 pub returns-then-not-is_innermost : goal.returns-then-not-is_innermost
 returns-then-not-is_innermost c =
