@@ -1,10 +1,11 @@
 -- The tests on bytes that only listings have.
 use Rattle.std.specs.Prelude.{◌≡◌, ℕ, ◌+◌, Bool, not, ◌&&◌, ◌||◌, List, [], ◌∷◌, ◌==◌}
+use Prim.Native.Char.{code}
 use Rattle.labels.specs.Spelling.{byte}
 
 -- neither `<` nor `>`
 abbrev pub plain : ℕ → Bool
-plain b = not (b == 60 || b == 62)
+plain b = not (b == code "<" || b == code ">")
 
 -- the bytes a and b do not stand at i and behind it
 abbrev pub apart : List ℕ → ℕ → ℕ → ℕ → Bool

@@ -1,5 +1,6 @@
 -- What stands at a place of a listing: the markup that begins there, the complete markup, and what is wrong with it.
-use Rattle.std.specs.Prelude.{◌≡◌, ℕ, ◌+◌, ◌-◌, ◌<◌, ◌≤◌, Bool, true, false, cond, ◌&&◌, ◌||◌, List, [], ◌∷◌, length, ◌==◌, ◌≢◌}
+use Rattle.std.specs.Prelude.{◌≡◌, ℕ, ◌+◌, ◌-◌, ◌<◌, ◌≤◌, Bool, true, false, cond, ◌&&◌, ◌||◌, List, [], ◌∷◌, length, ◌==◌, ◌≢◌, codes}
+use Prim.Native.Char.{code}
 use Rattle.labels.specs.Spelling.{byte, is_white, starts_name, Longest, Named, Spelled, name_limit}
 use Rattle.xml.specs.Bytes.{plain, apart, Stands}
 use Rattle.xml.specs.declared.markup.Markup.{Markup}
@@ -9,22 +10,25 @@ use Rattle.xml.specs.declared.markup.Markup.TheVariants.{Nothing, Text, EndTag, 
 abbrev pub two_dashes : List ℕ → Bool
 two_dashes [] = false
 two_dashes (a ∷ []) = false
-two_dashes (a ∷ b ∷ bs) = a == 45 && b == 45
+two_dashes (a ∷ b ∷ bs) = a == code "-" && b == code "-"
 
 abbrev pub behind : List ℕ → Markup
 behind [] = Cut
 behind (b ∷ bs) =
-    cond (b == 47) EndTag (cond (b == 33) (cond (two_dashes bs) Comment Declaration) (cond (b == 63) Instruction (cond (starts_name b) StartTag Stray)))
+    cond (b == code "/") EndTag
+    (cond (b == code "!") (cond (two_dashes bs) Comment Declaration)
+    (cond (b == code "?") Instruction
+    (cond (starts_name b) StartTag Stray)))
 
 abbrev pub markup : List ℕ → Markup
 markup [] = Nothing
-markup (b ∷ bs) = cond (b == 60) (behind bs) Text
+markup (b ∷ bs) = cond (b == code "<") (behind bs) Text
 
 -- The rest of a comment from b on: the first `--`, `>`
 pub record CommentEnds (xs : List ℕ) (b q : ℕ) : Type 0 where
   pub dashes : ℕ
-  pub first : Longest (apart xs 45 45) (length xs) b dashes
-  pub closes : Stands xs (45 ∷ 45 ∷ 62 ∷ []) dashes
+  pub first : Longest (apart xs (code "-") (code "-")) (length xs) b dashes
+  pub closes : Stands xs (codes "-->") dashes
   pub ends : q ≡ dashes + 3
 
 -- A comment: `<!--` and the rest
@@ -34,17 +38,17 @@ IsComment xs p q = CommentEnds xs (p + 4) q
 -- An instruction: `<?`, the first `?>` after it
 pub record IsInstruction (xs : List ℕ) (p q : ℕ) : Type 0 where
   pub close : ℕ
-  pub first : Longest (apart xs 63 62) (length xs) (p + 2) close
-  pub closes : Stands xs (63 ∷ 62 ∷ []) close
+  pub first : Longest (apart xs (code "?") (code ">")) (length xs) (p + 2) close
+  pub closes : Stands xs (codes "?>") close
   pub ends : q ≡ close + 2
 
 -- The rest of a start tag whose name ends at n: white space, `/` or `>`, and the first `>`, at c, with no `<` before it.
 -- Only `>` may follow a `/` right after the name.
 pub record TagEnds (xs : List ℕ) (n c : ℕ) : Type 0 where
-  pub after : (is_white (byte xs n) || (byte xs n == 47 || byte xs n == 62)) ≡ true
-  pub slash : byte xs n ≡ 47 → c ≡ n + 1
+  pub after : (is_white (byte xs n) || (byte xs n == code "/" || byte xs n == code ">")) ≡ true
+  pub slash : byte xs n ≡ code "/" → c ≡ n + 1
   pub rest : Longest (λ i. plain (byte xs i)) (length xs) n c
-  pub closes : byte xs c ≡ 62
+  pub closes : byte xs c ≡ code ">"
 
 -- A start tag with the name from p + 1 to n; it is empty where `/` stands right before its `>`
 pub record IsStart (xs : List ℕ) (p n q : ℕ) (empty : Bool) : Type 0 where
@@ -52,12 +56,12 @@ pub record IsStart (xs : List ℕ) (p n q : ℕ) (empty : Bool) : Type 0 where
   pub close : ℕ
   pub tag : TagEnds xs n close
   pub ends : q ≡ close + 1
-  pub slash : empty ≡ (byte xs (close - 1) == 47)
+  pub slash : empty ≡ (byte xs (close - 1) == code "/")
 
 -- The rest of an end tag: white space if any, `>`
 pub record EndEnds (xs : List ℕ) (n c : ℕ) : Type 0 where
   pub space : Longest (λ i. is_white (byte xs i)) (length xs) n c
-  pub closes : byte xs c ≡ 62
+  pub closes : byte xs c ≡ code ">"
 
 -- An end tag with the name from p + 2 to n
 pub record IsEnd (xs : List ℕ) (p n q : ℕ) : Type 0 where
@@ -74,23 +78,23 @@ pub data NameFault (xs : List ℕ) (p : ℕ) : ℕ → ℕ → Type 0 where
 
 -- with the rest of a comment from b on
 pub data CommentFault (xs : List ℕ) (b : ℕ) : ℕ → ℕ → Type 0 where
-  ended : (d : ℕ) → Longest (apart xs 45 45) (length xs) b d → length xs ≤ d + 2 → CommentFault xs b 31 (length xs)
-  byte_behind : (d : ℕ) → Longest (apart xs 45 45) (length xs) b d → d + 2 < length xs → (byte xs (d + 2) ≢ 62) → CommentFault xs b 30 (d + 2)
+  ended : (d : ℕ) → Longest (apart xs (code "-") (code "-")) (length xs) b d → length xs ≤ d + 2 → CommentFault xs b 31 (length xs)
+  byte_behind : (d : ℕ) → Longest (apart xs (code "-") (code "-")) (length xs) b d → d + 2 < length xs → (byte xs (d + 2) ≢ code ">") → CommentFault xs b 30 (d + 2)
 
 -- with an instruction at p
 pub data InstructionFault (xs : List ℕ) (p : ℕ) : ℕ → ℕ → Type 0 where
-  ended : Longest (apart xs 63 62) (length xs) (p + 2) (length xs) → InstructionFault xs p 31 (length xs)
+  ended : Longest (apart xs (code "?") (code ">")) (length xs) (p + 2) (length xs) → InstructionFault xs p 31 (length xs)
 
 -- with the rest of a start tag behind its name, which ends at n
 pub data TagFault (xs : List ℕ) (n : ℕ) : ℕ → ℕ → Type 0 where
   ended : length xs ≤ n → TagFault xs n 31 (length xs)
-  byte_behind : n < length xs → (is_white (byte xs n) || (byte xs n == 47 || byte xs n == 62)) ≡ false → TagFault xs n 30 n
-  slash_ended : byte xs n ≡ 47 → length xs ≤ n + 1 → TagFault xs n 31 (length xs)
-  slash_byte : byte xs n ≡ 47 → n + 1 < length xs → (byte xs (n + 1) ≢ 62) → TagFault xs n 30 (n + 1)
-  unclosed : (is_white (byte xs n) || byte xs n == 62) ≡ true → Longest (λ i. plain (byte xs i)) (length xs) n (length xs) → TagFault xs n 31 (length xs)
-  opened : (c : ℕ) → (is_white (byte xs n) || byte xs n == 62) ≡ true → Longest (λ i. plain (byte xs i)) (length xs) n c → byte xs c ≡ 60 → TagFault xs n 30 c
+  byte_behind : n < length xs → (is_white (byte xs n) || (byte xs n == code "/" || byte xs n == code ">")) ≡ false → TagFault xs n 30 n
+  slash_ended : byte xs n ≡ code "/" → length xs ≤ n + 1 → TagFault xs n 31 (length xs)
+  slash_byte : byte xs n ≡ code "/" → n + 1 < length xs → (byte xs (n + 1) ≢ code ">") → TagFault xs n 30 (n + 1)
+  unclosed : (is_white (byte xs n) || byte xs n == code ">") ≡ true → Longest (λ i. plain (byte xs i)) (length xs) n (length xs) → TagFault xs n 31 (length xs)
+  opened : (c : ℕ) → (is_white (byte xs n) || byte xs n == code ">") ≡ true → Longest (λ i. plain (byte xs i)) (length xs) n c → byte xs c ≡ code "<" → TagFault xs n 30 c
 
 -- with the rest of an end tag
 pub data EndFault (xs : List ℕ) (n : ℕ) : ℕ → ℕ → Type 0 where
   ended : Longest (λ i. is_white (byte xs i)) (length xs) n (length xs) → EndFault xs n 31 (length xs)
-  byte_behind : (c : ℕ) → Longest (λ i. is_white (byte xs i)) (length xs) n c → c < length xs → (byte xs c ≢ 62) → EndFault xs n 30 c
+  byte_behind : (c : ℕ) → Longest (λ i. is_white (byte xs i)) (length xs) n c → c < length xs → (byte xs c ≢ code ">") → EndFault xs n 30 c
