@@ -1,5 +1,6 @@
 -- What the private functions say.
 use Rattle.std.specs.Prelude.{◌≡◌, ℕ, ◌+◌, ◌-◌, ◌<◌, ◌≤◌, Bool, true, false, List, [], ◌∷◌, ◌++◌, map, length, drop, Some, None, Option, ◌==◌, ◌≢◌}
+use Prim.Native.Char.{code}
 use Rattle.labels.specs.Spelling.{byte, part, Spelled}
 use Rattle.labels.specs.declared.name.Name.{Name}
 use Rattle.sources.specs.declared.event.Event.{Event}
@@ -30,7 +31,7 @@ Told D f = D (scan_number f) (scan_place f)
 
 -- no `>` stands at p
 abbrev pub CloseMissing : List ℕ → ℕ → ScanFault → Type 0
-CloseMissing xs p (Byte c) = (c ≡ p) × (p < length xs) × (byte xs p ≢ 62)
+CloseMissing xs p (Byte c) = (c ≡ p) × (p < length xs) × (byte xs p ≢ code ">")
 CloseMissing xs p (End c) = (length xs ≤ p) × (c ≡ length xs)
 CloseMissing xs p (LongName c) = ⊥
 
@@ -47,7 +48,7 @@ pub record Tagged (xs : List ℕ) (b : ℕ) (t : Opening) : Type 0 where
   pub name : t.name.now ≡ part xs b stop
   pub rest : TagEnds xs stop close
   pub ends : t.end ≡ close + 1
-  pub slash : t.empty ≡ (byte xs (close - 1) == 47)
+  pub slash : t.empty ≡ (byte xs (close - 1) == code "/")
 
 -- Between tags: whether an element is open
 abbrev pub some : List (List ℕ) → Bool

@@ -6,7 +6,8 @@ use Rattle.labels.specs.NameOf.{name_of}
 use Rattle.labels.specs.declared.name.Name.{Name}
 use Rattle.sources.specs.declared.event.Event.{Event}
 use Rattle.sources.specs.declared.event.Event.TheVariants.{Open, Close}
-use Rattle.xml.specs.Total.{Meaning, reading}
+use Rattle.xml.specs.Reading.{Meaning}
+use Rattle.xml.specs.Total.{reading}
 use Rattle.xml.specs.declared.fault.XmlFault.{XmlFault}
 use Rattle.xml.specs.declared.fault.LookFault.{LookFault}
 use Rattle.xml.specs.declared.fault.LookFault.TheVariants.{Listing, Begun}
@@ -20,7 +21,7 @@ open_names names = reverse (map (λ n. n.now) names)
 abbrev pub tags_names : Tags → List (List ℕ)
 tags_names s = open_names s.opened.items
 
--- the meaning of the input from the place on
+-- the meaning of the input from the place on: each place has one
 abbrev pub tags_meaning : (s : Tags) → Meaning s.input.now s.place (tags_names s) s.rooted
 tags_meaning s = reading s.input.now s.place (tags_names s) s.rooted
 

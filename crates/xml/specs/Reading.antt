@@ -84,3 +84,9 @@ pub data Reads (xs : List ℕ) : ℕ → List (List ℕ) → Bool → List (Even
   closed : {p q : ℕ} {w : List ℕ} {names : List (List ℕ)} {rooted : Bool} {es : List (Event (List ℕ))} {end : Option XmlFault} →
       FindsAt xs p (w ∷ names) rooted (closes q) → Reads xs q names rooted es end →
       Reads xs p (w ∷ names) rooted (Close ∷ es) end
+
+-- The events and the ending of a listing from a place on
+pub record Meaning (xs : List ℕ) (p : ℕ) (names : List (List ℕ)) (rooted : Bool) : Type 0 where
+  pub events : List (Event (List ℕ))
+  pub ending : Option XmlFault
+  pub reads : Reads xs p names rooted events ending

@@ -17,7 +17,7 @@ use Rattle.xml.specs.Markup.CommentFault.{ended as comment_ended, byte_behind as
 use Rattle.xml.specs.Markup.InstructionFault.{ended as instruction_ended}
 use Rattle.xml.specs.Markup.TagFault.{ended as tag_ended, byte_behind as tag_byte, slash_ended, slash_byte, unclosed, opened as bracket_opened}
 use Rattle.xml.specs.Markup.EndFault.{ended as end_ended, byte_behind as end_byte}
-use Rattle.xml.specs.Reading.{levels, Room, Innermost, Finds, Reads}
+use Rattle.xml.specs.Reading.{levels, Room, Innermost, Finds, Reads, Meaning}
 use Rattle.xml.specs.Reading.Found.{finishes, skips, opens, closes, refuses}
 use Rattle.xml.specs.Reading.Finds.{finish, text, comment, instruction, start, end_tag}
 use Rattle.xml.specs.Reading.Reads.{done, refused, skipped, opened, opened_empty, closed}
@@ -249,12 +249,6 @@ module _ (xs : List ℕ) (p : ℕ) (names : List (List ℕ)) (rooted : Bool) whe
 
 none_open : (xs : List ℕ) (p : ℕ) (rooted : Bool) (k : Markup) (q : ℕ) → Finds xs p [] rooted k (closes q) → ⊥
 none_open xs p rooted k q (end_tag i d) = i
-
--- the events and the ending
-pub record Meaning (xs : List ℕ) (p : ℕ) (names : List (List ℕ)) (rooted : Bool) : Type 0 where
-  pub events : List (Event (List ℕ))
-  pub ending : Option XmlFault
-  pub reads : Reads xs p names rooted events ending
 
 reading_end : (xs : List ℕ) (p : ℕ) (names : List (List ℕ)) (rooted : Bool) → markup (drop p xs) ≡ Nothing → Next xs p names rooted Nothing → Meaning xs p names rooted
 reading_end xs p names rooted e (stop d) = record { events = []; ending = None; reads = done (subst (λ k. Finds xs p names rooted k finishes) (sym e) d) }
