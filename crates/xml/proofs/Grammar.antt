@@ -10,7 +10,7 @@ use Rattle.sources.specs.Forest.Forest.{none, tree}
 use Rattle.labels.specs.Spelling.{byte, part, is_white, starts_name}
 use Rattle.xml.specs.Markup.{markup, behind, two_dashes, IsComment, IsInstruction, IsStart, IsEnd}
 use Rattle.xml.specs.Shapes.{reaches}
-use Rattle.xml.specs.Reading.{levels, Room, Finds, Reads}
+use Rattle.xml.specs.Reading.{depth_limit, Room, Finds, Reads}
 use Rattle.xml.specs.Reading.Found.{finishes, skips, opens, closes}
 use Rattle.xml.specs.Reading.Finds.{finish, text as text_found, comment as comment_found, instruction as instruction_found, start as start_found, end_tag as end_found}
 use Rattle.xml.specs.Reading.Reads.{done, refused, skipped, opened, opened_empty, closed}
@@ -153,7 +153,7 @@ tails_child xs p q w v ns inside es a (s, m, r, trees, cs, c, g, i, same, on, eq
     (s, m, r, tree v inside trees, cs, child a c, g, i, same, on, ap (λ x. events_of (tree v inside none) ++ x) eq ∙ tree_events v inside trees (Close ∷ cs))
 
 tails_open : (xs : List ℕ) (p n q : ℕ) (names : List (List ℕ)) (es : List (Event (List ℕ))) →
-    Begins xs p StartTag → length names < levels → IsStart xs p n q false → (names ≡ [] → ⊥) →
+    Begins xs p StartTag → length names < depth_limit → IsStart xs p n q false → (names ≡ [] → ⊥) →
     Tails xs (part xs (p + 1) n ∷ names) q es → Tails xs names p (Open (part xs (p + 1) n) ∷ es)
 tails_open xs p n q [] es b few i ne t = absurd (ne refl)
 tails_open xs p n q (w ∷ ns) es b few i ne (s, m, r, inside, cs, c, g, j, same, on, eq) =
@@ -162,7 +162,7 @@ tails_open xs p n q (w ∷ ns) es b few i ne (s, m, r, inside, cs, c, g, j, same
     (tails_child xs p r w v ns inside cs (tags few b i c g j same) on)
 
 tails_empty : (xs : List ℕ) (p n q : ℕ) (names : List (List ℕ)) (es : List (Event (List ℕ))) →
-    Begins xs p StartTag → length names < levels → IsStart xs p n q true → (names ≡ [] → ⊥) →
+    Begins xs p StartTag → length names < depth_limit → IsStart xs p n q true → (names ≡ [] → ⊥) →
     Tails xs names q es → Tails xs names p (Open (part xs (p + 1) n) ∷ Close ∷ es)
 tails_empty xs p n q [] es b few i ne t = absurd (ne refl)
 tails_empty xs p n q (w ∷ ns) es b few i ne t = tails_child xs p q w (part xs (p + 1) n) ns none es (empty_tag few b i) t

@@ -10,7 +10,7 @@ use Rattle.xml.specs.declared.reader.Tags.{Tags}
 use Rattle.labels.specs.Spelling.{part, Spelled}
 use Rattle.labels.specs.NameOf.{name_of}
 use Rattle.xml.specs.Faults.{number, place}
-use Rattle.xml.specs.Reading.{levels, Finds, FindsAt, Reads, Room, Innermost}
+use Rattle.xml.specs.Reading.{depth_limit, Finds, FindsAt, Reads, Room, Innermost}
 use Rattle.xml.specs.Reading.Finds.{start, end_tag}
 use Rattle.xml.specs.declared.markup.Markup.{Markup}
 use Rattle.xml.specs.Reading.Found.{finishes, opens, closes, refuses}
@@ -118,7 +118,7 @@ fault_refuses s f d =
     let n = ap (map labelled) m.0 in
     record { none = n; ends = m.1; left = n; ending = refl; rooted = refl }
 
-pub room : (names : List (Bor (List ℕ))) (rooted : Bool) → length names < levels → (length names ≡ 0 → rooted ≡ false) → Room (open_names names) rooted
+pub room : (names : List (Bor (List ℕ))) (rooted : Bool) → length names < depth_limit → (length names ≡ 0 → rooted ≡ false) → Room (open_names names) rooted
 room names rooted h g =
     let l = length_names names in
     record { alone = λ e. let z : length (open_names names) ≡ 0 = ap length e in g (omega arith); few = omega arith }

@@ -10,7 +10,7 @@ use Rattle.sources.specs.Forest.{Forest, events_of}
 use Rattle.sources.specs.Forest.Forest.{none, tree}
 use Rattle.labels.specs.Spelling.{byte, part, is_white}
 use Rattle.xml.specs.Markup.{markup, IsComment, IsInstruction, IsStart, IsEnd}
-use Rattle.xml.specs.Reading.{levels}
+use Rattle.xml.specs.Reading.{depth_limit}
 use Rattle.xml.specs.declared.markup.Markup.{Markup}
 use Rattle.xml.specs.declared.markup.Markup.TheVariants.{Text, EndTag, Comment, Instruction, StartTag}
 use Rattle.xml.specs.declared.fault.XmlFault.{XmlFault}
@@ -31,9 +31,9 @@ pub data Production : Type 0 where
 
 -- An element, or content, stands from p to q with k elements open around it. Its trees have the names of the elements for labels.
 pub data Is (xs : List ℕ) : Production → ℕ → ℕ → ℕ → Forest (List ℕ) → Type 0 where
-  empty_tag : {k p n q : ℕ} → k < levels → Begins xs p StartTag → IsStart xs p n q true → Is xs element k p q (tree (part xs (p + 1) n) none none)
+  empty_tag : {k p n q : ℕ} → k < depth_limit → Begins xs p StartTag → IsStart xs p n q true → Is xs element k p q (tree (part xs (p + 1) n) none none)
   tags : {k p n r s m q : ℕ} {inside : Forest (List ℕ)} →
-      k < levels → Begins xs p StartTag → IsStart xs p n r false →
+      k < depth_limit → Begins xs p StartTag → IsStart xs p n r false →
       Is xs content (suc k) r s inside →
       Begins xs s EndTag → IsEnd xs s m q → part xs (s + 2) m ≡ part xs (p + 1) n →
       Is xs element k p q (tree (part xs (p + 1) n) inside none)

@@ -5,7 +5,7 @@ use Rattle.std.proofs.lemmas.Bool.{both_ways}
 use Rattle.labels.specs.Spelling.{byte, part, is_white, starts_name, Named, Spelled}
 use Rattle.xml.specs.Markup.{NameFault, CommentFault, InstructionFault, TagFault, EndFault}
 use Rattle.xml.specs.Markup.NameFault.{ended as name_ended, no_start, long}
-use Rattle.xml.specs.Reading.{levels, Room, Innermost, Wrong, ComesBefore, Finds}
+use Rattle.xml.specs.Reading.{depth_limit, Room, Innermost, Wrong, ComesBefore, Finds}
 use Rattle.xml.specs.Reading.Wrong.{unfinished, bare_text, bad_comment, bad_instruction, no_comment, cut_short, no_markup, second_root, too_deep, start_name, start_rest, end_name, other_name, end_rest}
 use Rattle.xml.specs.Reading.ComesBefore.{same, lower, long_name}
 use Rattle.xml.specs.Reading.Found.{refuses}
@@ -51,10 +51,10 @@ module _ (xs : List ℕ) where
 pub no_second : (names : List (List ℕ)) (rooted : Bool) → Room names rooted → names ≡ [] → rooted ≡ true → ⊥
 no_second names rooted r e t = both_ways _ (r.alone e) t
 
-pub no_deep : (names : List (List ℕ)) (rooted : Bool) → Room names rooted → levels ≤ length names → ⊥
+pub no_deep : (names : List (List ℕ)) (rooted : Bool) → Room names rooted → depth_limit ≤ length names → ⊥
 no_deep names rooted r d = let f = r.few in omega arith
 
-empty_deep : (names : List (List ℕ)) → names ≡ [] → levels ≤ length names → ⊥
+empty_deep : (names : List (List ℕ)) → names ≡ [] → depth_limit ≤ length names → ⊥
 empty_deep names e d = let l : length names ≡ 0 = ap length e in omega arith
 
 module _ {xs : List ℕ} {p : ℕ} {names : List (List ℕ)} {rooted : Bool} where
@@ -113,7 +113,7 @@ module _ {xs : List ℕ} {p : ℕ} {names : List (List ℕ)} {rooted : Bool} whe
           let h = tag_late xs n j to m.ends.within d in
           lower (omega arith)
 
-  pub deep : p < length xs → levels ≤ length names → Finds xs p names rooted StartTag (refuses 35 p)
+  pub deep : p < length xs → depth_limit ≤ length names → Finds xs p names rooted StartTag (refuses 35 p)
   deep l d = faulty (too_deep d) least
     where
       least : (j to : ℕ) → Wrong xs p names rooted StartTag j to → ComesBefore 35 p j to

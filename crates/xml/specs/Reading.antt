@@ -10,13 +10,13 @@ use Rattle.xml.specs.declared.markup.Markup.TheVariants.{Nothing, Text, EndTag, 
 use Rattle.xml.specs.declared.fault.XmlFault.{XmlFault}
 
 -- The elements that can be open at once
-abbrev pub levels : ℕ
-levels = 128
+abbrev pub depth_limit : ℕ
+depth_limit = 128
 
 -- one root alone, and no more open elements than allowed
 pub record Room (names : List (List ℕ)) (rooted : Bool) : Type 0 where
   pub alone : names ≡ [] → rooted ≡ false
-  pub few : length names < levels
+  pub few : length names < depth_limit
 
 -- the name is the innermost open element's
 abbrev pub Innermost : List (List ℕ) → List ℕ → Type 0
@@ -34,7 +34,7 @@ pub data Wrong (xs : List ℕ) (p : ℕ) (names : List (List ℕ)) (rooted : Boo
   cut_short : Wrong xs p names rooted Cut 31 (length xs)
   no_markup : Wrong xs p names rooted Stray 30 (p + 1)
   second_root : names ≡ [] → rooted ≡ true → Wrong xs p names rooted StartTag 30 p
-  too_deep : levels ≤ length names → Wrong xs p names rooted StartTag 35 p
+  too_deep : depth_limit ≤ length names → Wrong xs p names rooted StartTag 35 p
   start_name : {k at : ℕ} → NameFault xs (p + 1) k at → Wrong xs p names rooted StartTag k at
   start_rest : {k at n : ℕ} → Named xs (p + 1) n → TagFault xs n k at → Wrong xs p names rooted StartTag k at
   end_name : {k at : ℕ} → NameFault xs (p + 2) k at → Wrong xs p names rooted EndTag k at

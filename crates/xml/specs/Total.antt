@@ -1,11 +1,10 @@
 -- Every listing has a meaning.
-use Rattle.std.specs.Prelude.{◌≡◌, ℕ, zero, suc, ◌+◌, ◌-◌, ◌<◌, ◌≤◌, Bool, true, false, ◌||◌, ◌⊎◌, List, [], ◌∷◌, length, drop, Some, None, Option, ◌==◌, ◌≢◌, refl}
+use Rattle.std.specs.Prelude.{◌≡◌, ℕ, zero, suc, ◌+◌, ◌-◌, ◌<◌, ◌≤◌, Bool, true, false, ◌||◌, ◌⊎◌, List, [], ◌∷◌, length, drop, Some, None, ◌==◌, ◌≢◌, refl}
 use Rattle.std.proofs.Common.{sym, ◌∙◌, ap, subst, inl, inr, arith}
 use Rattle.std.proofs.lemmas.List.{drop_all}
 use Rattle.std.proofs.lemmas.Bool.{cases_lt, cases_eq, cases_Bool, ne_eqb, or_parts, or_from}
 use Rattle.std.proofs.lemmas.Slice.Eq.{bytes_eq-Decides}
 use Rattle.std.specs.Str.{bytes_eq}
-use Rattle.sources.specs.declared.event.Event.{Event}
 use Rattle.sources.specs.declared.event.Event.TheVariants.{Open, Close}
 use Rattle.labels.specs.Spelling.{byte, part, is_white, starts_name, continues_name, Longest, name_limit, Spelled}
 use Rattle.xml.specs.Bytes.{plain, apart}
@@ -17,7 +16,7 @@ use Rattle.xml.specs.Markup.CommentFault.{ended as comment_ended, byte_behind as
 use Rattle.xml.specs.Markup.InstructionFault.{ended as instruction_ended}
 use Rattle.xml.specs.Markup.TagFault.{ended as tag_ended, byte_behind as tag_byte, slash_ended, slash_byte, unclosed, opened as bracket_opened}
 use Rattle.xml.specs.Markup.EndFault.{ended as end_ended, byte_behind as end_byte}
-use Rattle.xml.specs.Reading.{levels, Room, Innermost, Finds, Reads, Meaning}
+use Rattle.xml.specs.Reading.{depth_limit, Room, Innermost, Finds, Meaning}
 use Rattle.xml.specs.Reading.Found.{finishes, skips, opens, closes, refuses}
 use Rattle.xml.specs.Reading.Finds.{finish, text, comment, instruction, start, end_tag}
 use Rattle.xml.specs.Reading.Reads.{done, refused, skipped, opened, opened_empty, closed}
@@ -198,7 +197,7 @@ module _ (xs : List ℕ) (p : ℕ) (names : List (List ℕ)) (rooted : Bool) whe
       go (bad f d) = fault f (instruction_fault d)
 
   at_start : p + 2 ≤ length xs → Next xs p names rooted StartTag
-  at_start h = go (cases_nil names) (cases_Bool rooted) (cases_lt (length names) levels)
+  at_start h = go (cases_nil names) (cases_Bool rooted) (cases_lt (length names) depth_limit)
     where
       tag : Room names rooted → (n : ℕ) → Spelled xs (p + 1) n → Outcome (TagEnds xs n) (TagFault xs n) → Next xs p names rooted StartTag
       tag r n s (good c d) =
@@ -211,7 +210,7 @@ module _ (xs : List ℕ) (p : ℕ) (names : List (List ℕ)) (rooted : Bool) whe
       named r (good n s) = tag r n s (some_tag xs n)
       named r (bad f d) = fault f (start_named r d)
 
-      go : ((names ≡ []) ⊎ (names ≢ [])) → ((rooted ≡ true) ⊎ (rooted ≡ false)) → ((length names < levels) ⊎ (levels ≤ length names)) → Next xs p names rooted StartTag
+      go : ((names ≡ []) ⊎ (names ≢ [])) → ((rooted ≡ true) ⊎ (rooted ≡ false)) → ((length names < depth_limit) ⊎ (depth_limit ≤ length names)) → Next xs p names rooted StartTag
       go (inl e) (inl r) d = fault (Scan (Byte p)) (second (omega arith) e r)
       go (inl e) (inr r) (inl f) = named (record { alone = λ _. r; few = f }) (some_name xs (p + 1))
       go (inl e) (inr r) (inr d) = fault (Deep p) (deep (omega arith) d)

@@ -1,11 +1,11 @@
 //! The reader's state.
 ghost use Rattle.std.specs.Prelude.{◌≡◌, ◌≤◌, false, [], length};
-ghost use Rattle.xml.specs.Reading.{levels};
+ghost use Rattle.xml.specs.Reading.{depth_limit};
 
 use arrayvec::ArrayVec;
 
 // The elements that can be open at once.
-pub(crate) const LEVELS: usize = 128;
+pub(crate) const DEPTH_LIMIT: usize = 128;
 
 // Reads tag by tag in the caller's bytes, of which it keeps no copy.
 #[derive(Drop)]
@@ -13,12 +13,12 @@ pub(crate) struct Tags<'a> {
     pub(crate) input: &'a [u8],
     pub(crate) place: usize,
     // the names of the open elements, the innermost last
-    pub(crate) opened: ArrayVec<&'a [u8], LEVELS>,
+    pub(crate) opened: ArrayVec<&'a [u8], DEPTH_LIMIT>,
     // the root's start tag is past
     pub(crate) rooted: bool,
     ghost within: { place ≤ length input.now },
     // known of each `ArrayVec`; said here for the definitions of what a reader means
-    ghost few: { length opened.items ≤ levels },
+    ghost few: { length opened.items ≤ depth_limit },
     ghost fresh: { rooted ≡ false → opened.items ≡ [] },
 }
 
