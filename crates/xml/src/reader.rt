@@ -1,6 +1,5 @@
 //! The reader's state.
 ghost use Rattle.std.specs.Prelude.{◌≡◌, ◌≤◌, false, [], length};
-ghost use Rattle.xml.specs.Reading.{depth_limit};
 
 use arrayvec::ArrayVec;
 
@@ -17,8 +16,6 @@ pub(crate) struct Tags<'a> {
     // the root's start tag is past
     pub(crate) rooted: bool,
     ghost within: { place ≤ length input.now },
-    // known of each `ArrayVec`; said here for the definitions of what a reader means
-    ghost few: { length opened.items ≤ depth_limit },
     ghost fresh: { rooted ≡ false → opened.items ≡ [] },
 }
 
