@@ -1,5 +1,6 @@
 -- How names and white space are spelled.
 use Rattle.std.specs.Prelude.{◌≡◌, ℕ, ◌+◌, ◌<◌, ◌≤◌, Bool, true, false, ◌||◌, List, length, ◌==◌, slice_index, slice_range}
+use Prim.Native.Char.{code}
 use Rattle.std.specs.Char.{is_ascii_digit, is_ascii_alphabetic}
 
 -- the byte at a place; past the end it is 0, which is no white space and stands in no name
@@ -16,11 +17,11 @@ is_white b = b == 32 || (b == 9 || (b == 10 || b == 13))
 
 -- a name begins with an ASCII letter or `_`
 abbrev pub starts_name : ℕ → Bool
-starts_name b = is_ascii_alphabetic b || b == 95
+starts_name b = is_ascii_alphabetic b || b == code "_"
 
 -- and goes on with these, digits, `.` and `-`
 abbrev pub continues_name : ℕ → Bool
-continues_name b = starts_name b || (is_ascii_digit b || (b == 46 || b == 45))
+continues_name b = starts_name b || (is_ascii_digit b || (b == code "." || b == code "-"))
 
 -- The longest run of places from p on that pass ends at q; it does not pass the end.
 pub record LongestRun (Passes Fails : ℕ → Type 0) (end p q : ℕ) : Type 0 where
