@@ -1,9 +1,9 @@
 -- The nodes of a table that is done are its records.
-use Rattle.std.proofs.Common.{◌≡◌, ℕ, zero, suc, ◌+◌, ◌-◌, ◌<◌, ◌≤◌, Bool, true, false, ltb, ◌⊎◌, List, [], ◌∷◌, ◌++◌, length, drop, drop-drop, Some, None, Option, sym, refl, ap, ◌∙◌, inl, inr, arith, add-one, ltb-false, lt-ltb, le-ltb}
+use Rattle.std.proofs.Common.{◌≡◌, ℕ, zero, suc, ◌+◌, ◌-◌, ◌<◌, ◌≤◌, Bool, true, false, ltb, ◌⊎◌, List, [], ◌∷◌, ◌++◌, drop, drop-drop, Some, None, refl, ap, ◌∙◌, inl, inr, arith, add-one, ltb-false, lt-ltb, le-ltb}
 use Rattle.std.proofs.lemmas.Bool.{cases_lt}
 use Rattle.std.proofs.lemmas.List.{drop_all}
 use Rattle.sources.specs.declared.event.Event.{Event}
-use Rattle.sources.specs.declared.event.Event.TheVariants.{Open, Close}
+use Rattle.sources.specs.declared.event.Event.TheVariants.{Open}
 use Rattle.sources.specs.declared.record.Record.{Record}
 use Rattle.sources.specs.declared.record.TableFault.TheVariants.{WrongDepth}
 use Rattle.sources.specs.Nodes.{innermost, outer, nodes_from, nodes}

@@ -3,7 +3,7 @@ use Rattle.sources.specs.declared.event.Event.{Event}
 use Rattle.sources.specs.declared.event.Event.TheVariants.{Open, Close}
 
 -- With k of the openings already seen still open, each of them and each opening of the list
--- has its closing in the list, properly nested.
+-- has its closing in the list, properly nested. Where none of them is open, a closing ends a node that was opened before.
 abbrev pub ClosedFrom : {L : Type 0} → ℕ → List (Event L) → Type 0
 ClosedFrom zero [] = Unit {0}
 ClosedFrom (suc k) [] = ⊥

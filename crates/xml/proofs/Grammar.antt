@@ -14,10 +14,10 @@ use Rattle.xml.specs.Reading.{depth_limit, Room, Finds, Reads}
 use Rattle.xml.specs.Reading.Found.{finishes, skips, opens, closes}
 use Rattle.xml.specs.Reading.Finds.{finish, text as text_found, comment as comment_found, instruction as instruction_found, start as start_found, end_tag as end_found}
 use Rattle.xml.specs.Reading.Reads.{done, refused, skipped, opened, opened_empty, closed}
-use Rattle.xml.specs.Documents.{Begins, Misc, Production, Is, DocumentFrom, Document, DoneAsDocument}
+use Rattle.xml.specs.Documents.{Begins, Misc, Production, Derives, DocumentFrom, Document, DoneAsDocument}
 use Rattle.xml.specs.Documents.Misc.{nothing as no_misc, space, comment as comment_misc, instruction as instruction_misc}
 use Rattle.xml.specs.Documents.Production.{element, content}
-use Rattle.xml.specs.Documents.Is.{empty_tag, tags, nothing, text, comment, instruction, child}
+use Rattle.xml.specs.Documents.Derives.{empty_tag, tags, nothing, text, comment, instruction, child}
 use Rattle.xml.specs.declared.markup.Markup.{Markup}
 use Rattle.xml.specs.declared.markup.Markup.TheVariants.{Nothing, Text, EndTag, Comment, Declaration, Instruction, StartTag, Stray}
 use Rattle.xml.specs.declared.fault.XmlFault.{XmlFault}
@@ -51,7 +51,7 @@ module _ (xs : List ℕ) where
   not_nil : (w : List ℕ) (ns : List (List ℕ)) → w ∷ ns ≡ [] → ⊥
   not_nil w ns e = let z : ◌≡◌ {A = ℕ} 0 1 = cc in omega arith
 
-  is_reads : (s : Production) (k p q : ℕ) (trees : Forest (List ℕ)) → Is xs s k p q trees →
+  is_reads : (s : Production) (k p q : ℕ) (trees : Forest (List ℕ)) → Derives xs s k p q trees →
       (names : List (List ℕ)) (rooted : Bool) (ds : List (Event (List ℕ))) (end : Option XmlFault) → length names ≡ k → Fit s names rooted →
       Reads xs q names true ds end → Reads xs p names rooted (events_of trees ++ ds) end
   is_reads s k p q trees (empty_tag {n = n} h b i) names rooted ds end l f d =
@@ -133,7 +133,7 @@ abbrev Tails : List ℕ → List (List ℕ) → ℕ → List (Event (List ℕ)) 
 Tails xs [] p es = (es ≡ []) × Misc xs p (length xs)
 Tails xs (w ∷ ns) p es =
     (s : ℕ) × (m : ℕ) × (q : ℕ) × (trees : Forest (List ℕ)) × (cs : List (Event (List ℕ))) ×
-    Is xs content (suc (length ns)) p s trees × Begins xs s EndTag × IsEnd xs s m q ×
+    Derives xs content (suc (length ns)) p s trees × Begins xs s EndTag × IsEnd xs s m q ×
     (part xs (s + 2) m ≡ w) × Tails xs ns q cs × (es ≡ events_of trees ++ (Close ∷ cs))
 
 tails_skip : (xs : List ℕ) (p q : ℕ) (names : List (List ℕ)) (es : List (Event (List ℕ))) →
@@ -142,13 +142,13 @@ tails_skip xs p q [] es (by_text b e h) t = (t.0, space b (h refl) (subst (λ x.
 tails_skip xs p q [] es (by_comment b d) t = (t.0, comment_misc b d t.1)
 tails_skip xs p q [] es (by_instruction b d) t = (t.0, instruction_misc b d t.1)
 tails_skip xs p q (w ∷ ns) es (by_text b e h) (s, m, r, trees, cs, c, g, i, same, on, eq) =
-    (s, m, r, trees, cs, text b (subst (λ x. Is xs content (suc (length ns)) x s trees) e c), g, i, same, on, eq)
+    (s, m, r, trees, cs, text b (subst (λ x. Derives xs content (suc (length ns)) x s trees) e c), g, i, same, on, eq)
 tails_skip xs p q (w ∷ ns) es (by_comment b d) (s, m, r, trees, cs, c, g, i, same, on, eq) = (s, m, r, trees, cs, comment b d c, g, i, same, on, eq)
 tails_skip xs p q (w ∷ ns) es (by_instruction b d) (s, m, r, trees, cs, c, g, i, same, on, eq) = (s, m, r, trees, cs, instruction b d c, g, i, same, on, eq)
 
 -- an element in front
 tails_child : (xs : List ℕ) (p q : ℕ) (w v : List ℕ) (ns : List (List ℕ)) (inside : Forest (List ℕ)) (es : List (Event (List ℕ))) →
-    Is xs element (suc (length ns)) p q (tree v inside none) → Tails xs (w ∷ ns) q es → Tails xs (w ∷ ns) p (events_of (tree v inside none) ++ es)
+    Derives xs element (suc (length ns)) p q (tree v inside none) → Tails xs (w ∷ ns) q es → Tails xs (w ∷ ns) p (events_of (tree v inside none) ++ es)
 tails_child xs p q w v ns inside es a (s, m, r, trees, cs, c, g, i, same, on, eq) =
     (s, m, r, tree v inside trees, cs, child a c, g, i, same, on, ap (λ x. events_of (tree v inside none) ++ x) eq ∙ tree_events v inside trees (Close ∷ cs))
 

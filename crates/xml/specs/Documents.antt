@@ -1,6 +1,6 @@
 -- Which listings are documents, and the tree of each, by these productions of XML 1.0, as far as a listing is looked at:
---   [1]  document: Misc, one root element, Misc
---   [27] Misc: white space, comments and instructions
+--   [1]  document: one root element, with any number of Misc before and behind it
+--   [27] Misc: white space, a comment or an instruction
 --   [39] element: the tag of an empty element, or a start tag, content, and an end tag with the same name
 --   [43] content: text, elements, comments and instructions
 -- No document type declaration and no CDATA section is allowed. An XML declaration counts as an instruction, and a reference as text.
@@ -15,41 +15,43 @@ use Rattle.xml.specs.declared.markup.Markup.{Markup}
 use Rattle.xml.specs.declared.markup.Markup.TheVariants.{Text, EndTag, Comment, Instruction, StartTag}
 use Rattle.xml.specs.declared.fault.XmlFault.{XmlFault}
 
+-- the markup that the bytes from p on begin
 abbrev pub Begins : List ℕ → ℕ → Markup → Type 0
 Begins xs p k = markup (drop p xs) ≡ k
 
--- what stands from p to q outside the root
+-- any number of Misc from p to q
 pub data Misc (xs : List ℕ) : ℕ → ℕ → Type 0 where
   nothing : {p : ℕ} → Misc xs p p
   space : {p q : ℕ} → Begins xs p Text → is_white (byte xs p) ≡ true → Misc xs (p + 1) q → Misc xs p q
   comment : {p r q : ℕ} → Begins xs p Comment → IsComment xs p r → Misc xs r q → Misc xs p q
   instruction : {p r q : ℕ} → Begins xs p Instruction → IsInstruction xs p r → Misc xs r q → Misc xs p q
 
+-- the productions that contain each other
 pub data Production : Type 0 where
   element : Production
   content : Production
 
 -- An element, or content, stands from p to q with k elements open around it. Its trees have the names of the elements for labels.
-pub data Is (xs : List ℕ) : Production → ℕ → ℕ → ℕ → Forest (List ℕ) → Type 0 where
-  empty_tag : {k p n q : ℕ} → k < depth_limit → Begins xs p StartTag → IsStart xs p n q true → Is xs element k p q (tree (part xs (p + 1) n) none none)
+pub data Derives (xs : List ℕ) : Production → ℕ → ℕ → ℕ → Forest (List ℕ) → Type 0 where
+  empty_tag : {k p n q : ℕ} → k < depth_limit → Begins xs p StartTag → IsStart xs p n q true → Derives xs element k p q (tree (part xs (p + 1) n) none none)
   tags : {k p n r s m q : ℕ} {inside : Forest (List ℕ)} →
       k < depth_limit → Begins xs p StartTag → IsStart xs p n r false →
-      Is xs content (suc k) r s inside →
+      Derives xs content (suc k) r s inside →
       Begins xs s EndTag → IsEnd xs s m q → part xs (s + 2) m ≡ part xs (p + 1) n →
-      Is xs element k p q (tree (part xs (p + 1) n) inside none)
-  nothing : {k p : ℕ} → Is xs content k p p none
-  text : {k p q : ℕ} {trees : Forest (List ℕ)} → Begins xs p Text → Is xs content k (p + 1) q trees → Is xs content k p q trees
-  comment : {k p r q : ℕ} {trees : Forest (List ℕ)} → Begins xs p Comment → IsComment xs p r → Is xs content k r q trees → Is xs content k p q trees
-  instruction : {k p r q : ℕ} {trees : Forest (List ℕ)} → Begins xs p Instruction → IsInstruction xs p r → Is xs content k r q trees → Is xs content k p q trees
+      Derives xs element k p q (tree (part xs (p + 1) n) inside none)
+  nothing : {k p : ℕ} → Derives xs content k p p none
+  text : {k p q : ℕ} {trees : Forest (List ℕ)} → Begins xs p Text → Derives xs content k (p + 1) q trees → Derives xs content k p q trees
+  comment : {k p r q : ℕ} {trees : Forest (List ℕ)} → Begins xs p Comment → IsComment xs p r → Derives xs content k r q trees → Derives xs content k p q trees
+  instruction : {k p r q : ℕ} {trees : Forest (List ℕ)} → Begins xs p Instruction → IsInstruction xs p r → Derives xs content k r q trees → Derives xs content k p q trees
   child : {k p r q : ℕ} {w : List ℕ} {inside behind : Forest (List ℕ)} →
-      Is xs element k p r (tree w inside none) → Is xs content k r q behind → Is xs content k p q (tree w inside behind)
+      Derives xs element k p r (tree w inside none) → Derives xs content k r q behind → Derives xs content k p q (tree w inside behind)
 
 -- From p on, the rest of the listing is a document, with the root's tree.
 pub record DocumentFrom (xs : List ℕ) (p : ℕ) (trees : Forest (List ℕ)) : Type 0 where
   pub start : ℕ
   pub stop : ℕ
   pub before : Misc xs p start
-  pub root : Is xs element 0 start stop trees
+  pub root : Derives xs element 0 start stop trees
   pub behind : Misc xs stop (length xs)
 
 -- the whole of it

@@ -31,8 +31,8 @@ pending true es = Close ∷ es
 pending false es = es
 
 -- the events still to come, with the bytes of names for labels
-abbrev pub xml_bytes : Xml → List (Event (List ℕ))
-xml_bytes s = pending s.closing (tags_meaning s.tags).events
+abbrev pub xml_spelled : Xml → List (Event (List ℕ))
+xml_spelled s = pending s.closing (tags_meaning s.tags).events
 
 -- the same with labels
 abbrev pub labelled : Event (List ℕ) → Event Name
@@ -40,7 +40,7 @@ labelled (Open w) = Open (name_of w)
 labelled Close = Close
 
 abbrev pub xml_events : Xml → List (Event Name)
-xml_events s = map labelled (xml_bytes s)
+xml_events s = map labelled (xml_spelled s)
 
 -- done, or the first fault
 abbrev pub xml_ending : Xml → Option XmlFault
@@ -60,18 +60,18 @@ begun_by before (Err f) = before
 pub record Looks (s : Xml) (w : List ℕ) : Type 0 where
   pub early : begun s ≡ false
   pub others : List (Event (List ℕ))
-  pub first : xml_bytes s ≡ Open w ∷ others
+  pub first : xml_spelled s ≡ Open w ∷ others
   pub from : ℕ
   pub to : ℕ
   pub cut : w ≡ part s.tags.input.now from to
 
--- or the fault that next would answer
+-- The listing ends in the fault before any event: next would answer it
 pub record Fails (s : Xml) (f : XmlFault) : Type 0 where
   pub early : begun s ≡ false
-  pub none : xml_bytes s ≡ []
+  pub none : xml_spelled s ≡ []
   pub ends : xml_ending s ≡ Some f
 
--- or that an event is behind the reader
+-- Why a look ahead answers no name: an event is behind the reader, or the listing ends in a fault before any
 abbrev pub NoLook : Xml → LookFault → Type 0
 NoLook s Begun = begun s ≡ true
 NoLook s (Listing f) = Fails s f

@@ -1,6 +1,6 @@
-//! What can be wrong with a listing, and what the reader comes to.
+//! What can be wrong with a listing.
 ghost use Rattle.std.specs.Prelude.{◌≡◌, Some};
-ghost use Rattle.xml.specs.Faults.{scan_number, scan_place, number, place, fault_text, look_number, look_text};
+ghost use Rattle.xml.specs.Faults.{scan_number, scan_place, number, place, fault_text, look_number, look_place, look_text};
 ghost use Rattle.xml.specs.declared.fault.LookFault.{LookFault};
 ghost use Rattle.xml.specs.declared.fault.XmlFault.{XmlFault};
 
@@ -10,30 +10,33 @@ use std::fmt;
 /// What a scan finds, with the place.
 #[derive(Clone, Copy, PartialEq, Eq, Debug)]
 pub enum ScanFault {
-    // The byte is not allowed.
+    /// The byte is not allowed.
     Byte(usize),
-    // The input ends too early; its length.
+    /// The input ends too early; its length.
     End(usize),
-    // The name has too many bytes.
+    /// The name has too many bytes.
     LongName(usize),
 }
 
 /// What the source finds, with the place.
 #[derive(Clone, Copy, PartialEq, Eq, Debug)]
 pub enum XmlFault {
+    /// A scan found it.
     Scan(ScanFault),
-    // An end tag's name is not the innermost open element's.
+    /// An end tag's name is not the innermost open element's.
     WrongName(usize),
-    // `<!` begins no comment.
+    /// `<!` begins no comment.
     NotComment(usize),
-    // Too many elements are open for one more.
+    /// Too many elements are open for one more.
     Deep(usize),
 }
 
-/// Why a look ahead answers no name: the listing's fault, or the first event is past.
+/// Why a look ahead answers no name.
 #[derive(Clone, Copy, PartialEq, Eq, Debug)]
 pub enum LookFault {
+    /// What next would answer.
     Listing(XmlFault),
+    /// An event is past.
     Begun,
 }
 
@@ -79,7 +82,7 @@ impl XmlFault {
     }
 }
 
-// The number and the place, as `33 at 8`.
+/// The number and the place, as `33 at 8`.
 impl fmt::Display for XmlFault {
     ghost output = { λ f. Some (fault_text f) };
 
@@ -99,16 +102,27 @@ impl LookFault {
             LookFault::Begun => 25,
         }
     }
+
+    /// The place, if it has one.
+    pub fn place(&self) -> Option<usize>
+        ensures { result ≡ look_place self.now }
+    {
+        match self {
+            LookFault::Listing(fault) => Some(fault.place()),
+            LookFault::Begun => None,
+        }
+    }
 }
 
-// The listing's fault, or the number alone.
+/// The number, at its place if it has one.
 impl fmt::Display for LookFault {
     ghost output = { λ f. Some (look_text f) };
 
     fn fmt<W: fmt::Write>(&self, f: &mut fmt::Formatter<W>) -> fmt::Result {
-        match self {
-            LookFault::Listing(fault) => write!(f, "{fault}"),
-            LookFault::Begun => write!(f, "{}", self.number()),
+        let number = self.number();
+        match self.place() {
+            None => write!(f, "{number}"),
+            Some(place) => write!(f, "{number} at {place}"),
         }
     }
 }

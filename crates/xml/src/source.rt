@@ -3,7 +3,7 @@ ghost use Rattle.std.specs.Prelude.{◌≡◌, false, []};
 ghost use Rattle.sources.specs.Events.{MeansOnly, answer, rest};
 ghost use Rattle.xml.specs.Reading.{Reads};
 ghost use Rattle.xml.specs.Documents.{DoneAsDocument};
-ghost use Rattle.xml.specs.Means.{xml_events, xml_ending, xml_bytes, begun, begun_by};
+ghost use Rattle.xml.specs.Means.{xml_events, xml_ending, xml_spelled, begun, begun_by};
 ghost use Rattle.xml.specs.Nesting.{xml_nested};
 
 use crate::fault::XmlFault;
@@ -18,8 +18,8 @@ impl<'a> Xml<'a> {
     #[tactic(auto, using(crate::proofs::Grammar::only_meaning, crate::proofs::Grammar::done_document))]
     pub fn new(input: &'a [u8]) -> Xml<'a>
         ensures fresh { begun result ≡ false }
-        ensures meaning { MeansOnly (Reads input.now 0 [] false) (xml_bytes result) (xml_ending result) }
-        ensures document { DoneAsDocument input.now (xml_bytes result) (xml_ending result) }
+        ensures meaning { MeansOnly (Reads input.now 0 [] false) (xml_spelled result) (xml_ending result) }
+        ensures document { DoneAsDocument input.now (xml_spelled result) (xml_ending result) }
     {
         Xml {
             tags: Tags::new(input),
