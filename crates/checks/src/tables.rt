@@ -1,7 +1,8 @@
 //! Folder tables: the events that they tell, and how they end.
 use labels::code::FolderCode;
 use sources::event::Event;
-use sources::record::{FolderTable, Record, TableFault};
+use sources::fault::TableFault;
+use sources::record::{FolderTable, Record};
 use sources::source::Source;
 use std::process::Abort;
 

@@ -3,7 +3,7 @@ use Rattle.sources.specs.declared.event.Event.TheVariants.{Open}
 use Rattle.sources.specs.Table.{closings, events_from, ending_from, Allowed, deeper, shallower, Listing}
 use Rattle.sources.specs.Table.Listing.{finished, refused, opened}
 use Rattle.sources.specs.declared.record.Record.{Record}
-use Rattle.sources.specs.declared.record.TableFault.{TableFault}
+use Rattle.sources.specs.declared.fault.TableFault.{TableFault}
 use Rattle.sources.specs.declared.event.Event.{Event}
 
 -- the depth before, and those of the open nodes, where so many are open

@@ -5,7 +5,7 @@ use Rattle.std.proofs.lemmas.List.{drop_all}
 use Rattle.sources.specs.declared.event.Event.{Event}
 use Rattle.sources.specs.declared.event.Event.TheVariants.{Open}
 use Rattle.sources.specs.declared.record.Record.{Record}
-use Rattle.sources.specs.declared.record.TableFault.TheVariants.{WrongDepth}
+use Rattle.sources.specs.declared.fault.TableFault.TheVariants.{WrongDepth}
 use Rattle.sources.specs.Nodes.{innermost, outer, nodes_from, nodes}
 use Rattle.sources.specs.Table.{closings, events_from, ending_from, above, record_nodes}
 

@@ -1,8 +1,8 @@
 -- The faults of a folder table by their numbers and records.
 use Rattle.std.specs.Prelude.{ℕ, List}
 use Rattle.labels.specs.Printed.{number_in_record}
-use Rattle.sources.specs.declared.record.TableFault.{TableFault}
-use Rattle.sources.specs.declared.record.TableFault.TheVariants.{WrongDepth}
+use Rattle.sources.specs.declared.fault.TableFault.{TableFault}
+use Rattle.sources.specs.declared.fault.TableFault.TheVariants.{WrongDepth}
 
 -- the number of each fault, and its record
 abbrev pub number_and_record : TableFault → ℕ × ℕ

@@ -4,8 +4,8 @@ use Rattle.sources.specs.declared.event.Event.{Event}
 use Rattle.sources.specs.declared.event.Event.TheVariants.{Open, Close}
 use Rattle.sources.specs.declared.record.Record.{Record}
 use Rattle.sources.specs.declared.record.FolderTable.{FolderTable}
-use Rattle.sources.specs.declared.record.TableFault.{TableFault}
-use Rattle.sources.specs.declared.record.TableFault.TheVariants.{WrongDepth}
+use Rattle.sources.specs.declared.fault.TableFault.{TableFault}
+use Rattle.sources.specs.declared.fault.TableFault.TheVariants.{WrongDepth}
 
 -- so many closings
 abbrev pub closings : {L : Type 0} → ℕ → List (Event L)

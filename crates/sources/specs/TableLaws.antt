@@ -7,7 +7,7 @@ use Rattle.sources.specs.Events.{ClosedFrom}
 use Rattle.sources.specs.Table.{closings, events_from, ending_from, table_events, table_ending}
 use Rattle.sources.specs.declared.record.Record.{Record}
 use Rattle.sources.specs.declared.record.FolderTable.{FolderTable}
-use Rattle.sources.specs.declared.record.TableFault.TheVariants.{WrongDepth}
+use Rattle.sources.specs.declared.fault.TableFault.TheVariants.{WrongDepth}
 
 closed_closings : (L : Type 0) (k level : ℕ) → k ≤ level → ClosedFrom {L = L} k (closings level)
 closed_closings L zero zero h = tt

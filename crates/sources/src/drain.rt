@@ -4,11 +4,10 @@ ghost use Rattle.std.specs.Prelude.{◌≡◌, ◌<◌, ◌≤◌, min, length, 
 use crate::source::Source;
 
 /// How many events come, and the fault behind them, if one comes. No more events are heard than asked for.
-#[tactic(auto, using(crate::proofs::Answered::from_err))]
 pub fn drained<S: Source>(source: &mut S, most: usize) -> (usize, Option<S::Fault>)
     ensures count { result.0 ≡ min most (length (S.events source.old)) }
-    ensures fault { length (S.events source.old) < most → result.1 ≡ S.ending source.old }
-    ensures unheard { most ≤ length (S.events source.old) → result.1 ≡ None }
+    ensures told { length (S.events source.old) < most → result.1 ≡ S.ending source.old }
+    ensures untold { most ≤ length (S.events source.old) → result.1 ≡ None }
     ensures others { S.events source.new ≡ drop result.0 (S.events source.old) }
     ensures ending { S.ending source.new ≡ S.ending source.old }
 {

@@ -1,4 +1,6 @@
-//! An opening with the label of the node that it opens, or a closing of the last node still open.
+//! What a source tells.
+
+/// An opening with the label of the node that it opens, or a closing of the last node still open.
 #[derive(Clone, Copy, PartialEq, Eq, Debug)]
 pub enum Event<L> {
     Open(L),

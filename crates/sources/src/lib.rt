@@ -2,6 +2,7 @@
 
 pub mod drain;
 pub mod event;
+pub mod fault;
 pub mod record;
 pub mod source;
-pub mod table;
+mod table;

@@ -7,7 +7,8 @@ ghost use Rattle.sources.specs.Table.{table_events, table_ending, record_nodes, 
 ghost use Rattle.sources.specs.TableLaws.{table_nested};
 
 use crate::event::Event;
-use crate::record::{FolderTable, Record, TableFault};
+use crate::fault::TableFault;
+use crate::record::{FolderTable, Record};
 use crate::source::Source;
 use labels::kind::LabelKind;
 use std::cmp::Ordering;

@@ -14,30 +14,24 @@ returns-in-Ok-None g c =
     let k = all_heard _ c.loop-count.count i.0 (sym i.1 ∙ end.0) in
     record {
       count = omega arith;
-      fault = λ l. sym end.1 ∙ i.2;
-      unheard = λ l. refl;
+      told = λ l. sym end.1 ∙ i.2;
+      untold = λ l. refl;
       others = c.next.ensures.others ∙ ap rest end.0 ∙ sym end.0 ∙ i.1;
       ending = c.next.ensures.ending ∙ i.2;
     }
 
-pub returns-in-Err-clause-count : goal.returns-in-Err-clause-count
-returns-in-Err-clause-count g c =
+pub returns-in-Err : goal.returns-in-Err
+returns-in-Err g c =
     let end = from_err _ _ c.in-Err.fault (sym c.next.ensures.answer ∙ c.in-Err.is) in
     let i = c.loop-count.invariant in
     let k = all_heard _ c.loop-count.count i.0 (sym i.1 ∙ end.0) in
-    omega arith
-
-pub returns-in-Err-clause-unheard : goal.returns-in-Err-clause-unheard
-returns-in-Err-clause-unheard g c =
-    let end = from_err _ _ c.in-Err.fault (sym c.next.ensures.answer ∙ c.in-Err.is) in
-    let i = c.loop-count.invariant in
-    let k = all_heard _ c.loop-count.count i.0 (sym i.1 ∙ end.0) in
-    λ l. absurd (omega arith)
-
-pub returns-in-Err-clause-others : goal.returns-in-Err-clause-others
-returns-in-Err-clause-others g c =
-    let end = from_err _ _ c.in-Err.fault (sym c.next.ensures.answer ∙ c.in-Err.is) in
-    c.next.ensures.others ∙ ap rest end.0 ∙ sym end.0 ∙ c.loop-count.invariant.1
+    record {
+      count = omega arith;
+      told = λ l. sym end.1 ∙ i.2;
+      untold = λ l. absurd (omega arith);
+      others = c.next.ensures.others ∙ ap rest end.0 ∙ sym end.0 ∙ i.1;
+      ending = c.next.ensures.ending ∙ i.2;
+    }
 
 pub loop-count-preserved : goal.loop-count-preserved
 loop-count-preserved g c =
