@@ -29,6 +29,10 @@ use Rattle.std.specs.declared.ops.ControlFlow.TheVariants.{Continue, Break}
 abbrev pub Told : (ℕ → ℕ → Type 0) → ScanFault → Type 0
 Told D f = D (scan_number f) (scan_place f)
 
+-- the `>` stands at p
+abbrev pub ClosesAt : List ℕ → ℕ → ℕ → Type 0
+ClosesAt xs p c = (c ≡ p) × (byte xs p ≡ code ">")
+
 -- no `>` stands at p
 abbrev pub CloseMissing : List ℕ → ℕ → ScanFault → Type 0
 CloseMissing xs p (Byte c) = (c ≡ p) × (p < length xs) × (byte xs p ≢ code ">")

@@ -132,15 +132,15 @@ impl Error for LookFault {}
 impl From<ScanFault> for XmlFault {
     ghost from_gives = { λ x y. y ≡ XmlFault.Scan x };
 
-    fn from(fault: ScanFault) -> XmlFault {
-        XmlFault::Scan(fault)
+    fn from(found: ScanFault) -> XmlFault {
+        XmlFault::Scan(found)
     }
 }
 
 impl From<XmlFault> for LookFault {
     ghost from_gives = { λ x y. y ≡ LookFault.Listing x };
 
-    fn from(fault: XmlFault) -> LookFault {
-        LookFault::Listing(fault)
+    fn from(found: XmlFault) -> LookFault {
+        LookFault::Listing(found)
     }
 }

@@ -7,10 +7,13 @@ pub(crate) enum Markup {
     Text,
     EndTag,
     Comment,
+    // `<!` without `--` behind it
     Declaration,
     Instruction,
     StartTag,
+    // `<` as the last byte
     Cut,
+    // `<` with a byte behind it that begins no markup
     Stray,
 }
 

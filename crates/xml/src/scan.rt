@@ -4,7 +4,7 @@ ghost use Rattle.std.specs.Prelude.{◌≡◌, ◌≤◌, length, MatchResult};
 ghost use Rattle.labels.specs.Spelling.{byte, Longest, Spelled};
 ghost use Rattle.xml.specs.Bytes.{plain};
 ghost use Rattle.xml.specs.Markup.{TagEnds, EndEnds, NameFault, TagFault, EndFault};
-ghost use Rattle.xml.specs.Inner.{Told, CloseMissing, StartFault, Tagged};
+ghost use Rattle.xml.specs.Inner.{Told, ClosesAt, CloseMissing, StartFault, Tagged};
 
 use crate::fault::ScanFault;
 use labels::spelling;
@@ -38,7 +38,7 @@ fn bracket_place(input: &[u8], from: usize) -> usize
 
 // Answers the place itself, at which a `>` must stand.
 fn close_at(input: &[u8], at: usize) -> Result<usize, ScanFault>
-    ensures { MatchResult result (λ c. (c ≡ at) × (byte input.now at ≡ 62)) (CloseMissing input.now at) }
+    ensures { MatchResult result (ClosesAt input.now at) (CloseMissing input.now at) }
 {
     match rest(input, at) {
         [] => Err(ScanFault::End(input.len())),
@@ -48,7 +48,7 @@ fn close_at(input: &[u8], at: usize) -> Result<usize, ScanFault>
 }
 
 // The place of the `>` that ends a start tag, whose name ends at `at`.
-fn tag_end(input: &[u8], at: usize) -> Result<usize, ScanFault>
+fn tag_close(input: &[u8], at: usize) -> Result<usize, ScanFault>
     ensures { MatchResult result (TagEnds input.now at) (Told (TagFault input.now at)) }
 {
     match rest(input, at) {
@@ -76,10 +76,10 @@ pub struct Opening<'a> {
 pub fn start_tag(input: &[u8], at: usize) -> Result<Opening<'_>, ScanFault>
     ensures { MatchResult result (Tagged input.now at) (Told (StartFault input.now at)) }
 {
-    let name_end = name_end(input, at)?;
-    let close = tag_end(input, name_end)?;
+    let end = name_end(input, at)?;
+    let close = tag_close(input, end)?;
     Ok(Opening {
-        name: &input[at..name_end],
+        name: &input[at..end],
         end: close + 1,
         empty: input[close - 1] == b'/',
     })
@@ -87,7 +87,7 @@ pub fn start_tag(input: &[u8], at: usize) -> Result<Opening<'_>, ScanFault>
 
 /// The place of the `>` that ends an end tag, whose name ends at `at`.
 #[tactic(auto, using(crate::proofs::Ends::white_closes))]
-pub fn end_tag_end(input: &[u8], at: usize) -> Result<usize, ScanFault>
+pub fn end_tag_close(input: &[u8], at: usize) -> Result<usize, ScanFault>
     ensures { at ≤ length input.now → MatchResult result (EndEnds input.now at) (Told (EndFault input.now at)) }
 {
     close_at(input, white_end(input, at))

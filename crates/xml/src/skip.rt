@@ -1,4 +1,4 @@
-//! What stands between tags. Bare places go in and come out, for the reason at the head of scan.rt.
+//! What stands between tags. Scans take and answer bare places, for the reason at the head of scan.rt.
 ghost use Rattle.std.specs.Prelude.{◌≡◌, ◌+◌, ◌<◌, ◌≤◌, length, drop, MatchResult, slice_index, not};
 ghost use Rattle.labels.specs.Spelling.{Longest};
 ghost use Rattle.xml.specs.Bytes.{apart};

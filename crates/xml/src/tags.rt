@@ -11,7 +11,7 @@ ghost use Rattle.xml.specs.declared.markup.Markup.TheVariants.{Nothing, StartTag
 use crate::fault::{ScanFault, XmlFault};
 use crate::markup::Stop;
 use crate::reader::Tags;
-use crate::scan::{end_tag_end, name_end, start_tag};
+use crate::scan::{end_tag_close, name_end, start_tag};
 use crate::skip::skip;
 use arrayvec::ArrayVec;
 use labels::name::Name;
@@ -96,11 +96,11 @@ impl<'a> Tags<'a> {
     {
         let input = self.input;
         let from = self.place + 2;
-        let name = name_end(input, from)?;
-        if !self.is_innermost(&input[from..name]) {
+        let end = name_end(input, from)?;
+        if !self.is_innermost(&input[from..end]) {
             return Err(XmlFault::WrongName(from));
         }
-        let close = end_tag_end(input, name)?;
+        let close = end_tag_close(input, end)?;
         self.opened.pop();
         self.place = close + 1;
         Ok(Some(Tag::Close))

@@ -4,8 +4,8 @@ use Rattle.labels.specs.Spelling.{byte, is_white}
 use Rattle.xml.specs.Markup.TagFault.{ended, byte_behind}
 use Rattle.xml.specs.Shapes.{from_place}
 use Rattle.xml.proofs.Ends.{slash_closes, bracket_closes}
-use Rattle.xml.proofs.scan.tag_end.Goals as goal
-use Rattle.xml.proofs.scan.tag_end.Goals.{then-is_white, else-is_white}
+use Rattle.xml.proofs.scan.tag_close.Goals as goal
+use Rattle.xml.proofs.scan.tag_close.Goals.{then-is_white, else-is_white}
 
 pub returns-in-empty : goal.returns-in-empty
 returns-in-empty c = let s = from_place c.args.input.now c.rest.result.now c.args.at c.rest.ensures in ended (omega (arith, ltb-true, ltb-false, s.long))
