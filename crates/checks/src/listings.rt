@@ -5,7 +5,7 @@ use sources::event::Event;
 use sources::source::Source;
 use std::process::Abort;
 use std::test::Fail;
-use xml::fault::LookFault;
+use xml::fault::{LookFault, XmlFault};
 use xml::reader::Xml;
 
 // More events than a test has.
@@ -39,9 +39,9 @@ fn tells(rt: &impl Abort, input: &str, events: &str) {
 fn refused(rt: &impl Abort, input: &[u8], events: usize, number: u32, place: usize) {
     let mut source = Xml::new(input);
     let (count, first) = drained(&mut source, MANY);
-    assert_eq!(rt; count, events, "events before {number} at {place}");
+    let told = first.map(|fault| (fault.number(), fault.place()));
+    assert_eq!(rt; (count, told), (events, Some((number, place))));
     assert_eq!(rt; drained(&mut source, MANY), (0, first));
-    assert_eq!(rt; fault(input), Some((number, place)));
 }
 
 #[test]
@@ -75,22 +75,28 @@ fn faults(rt: HostRuntime) {
         ("<a/> x", 2, 30, 5),
         ("<a/><b/>", 2, 30, 4),
         ("<a></a><b", 2, 30, 7),
+        ("<a/><b12345678901234567890123456789012/>", 2, 30, 4),
         ("<", 0, 31, 1),
         ("<1>", 0, 30, 1),
         ("<a>< b>", 1, 30, 4),
         ("<a/><1", 2, 30, 5),
+        ("<a/><", 2, 31, 5),
         ("<!DOCTYPE a><a/>", 0, 34, 0),
         ("<!", 0, 34, 0),
         ("<!-", 0, 34, 0),
         ("<a><![CDATA[x]]></a>", 1, 34, 3),
+        ("<a/><!x", 2, 34, 4),
         ("<!-->", 0, 31, 5),
         ("<!--->", 0, 31, 6),
         ("<!----", 0, 31, 6),
         ("<!----x", 0, 30, 6),
         ("<!-- -- -->", 0, 30, 7),
+        ("<a><!-- -- -->", 1, 30, 10),
+        ("<a/><!--", 2, 31, 8),
         ("<?", 0, 31, 2),
         ("<?>", 0, 31, 3),
         ("<a><?x>?", 1, 31, 8),
+        ("<a/><?", 2, 31, 6),
         ("<a+>", 0, 30, 2),
         ("<a/ >", 0, 30, 3),
         ("<a//>", 0, 30, 3),
@@ -100,6 +106,8 @@ fn faults(rt: HostRuntime) {
         ("<a b='c>d'/>", 1, 31, 12),
         ("<a></1", 1, 30, 5),
         ("<a></ a>", 1, 30, 5),
+        ("<a></>", 1, 30, 5),
+        ("</", 0, 31, 2),
         ("<a></a/>", 1, 30, 6),
         ("<a></a b>", 1, 30, 7),
         ("<a><b></a>", 2, 33, 8),
@@ -107,6 +115,8 @@ fn faults(rt: HostRuntime) {
         ("<a></ab>", 1, 33, 5),
         ("<ab></a", 1, 33, 6),
         ("</a>", 0, 33, 2),
+        ("<a/></a>", 2, 33, 6),
+        ("</a12345678901234567890123456789012", 0, 32, 2),
         ("<a /></a>", 2, 33, 7),
         ("<a12345678901234567890123456789012/>", 0, 32, 1),
         ("<a><a12345678901234567890123456789012", 1, 32, 4),
@@ -143,8 +153,50 @@ fn levels(rt: HostRuntime) {
     let mut input = [0; 896];
     nest(&mut input, b"</a>");
     assert_eq!(rt; drained(&mut Xml::new(&input), MANY), (256, None));
-    nest(&mut input, b"<a/>");
+    for tag in [b"<a/>", b"<aaa", b"<a> "] {
+        nest(&mut input, tag);
+        refused(&rt, &input, 128, 35, 384);
+    }
+    nest(&mut input, b"<1/>");
+    refused(&rt, &input, 128, 30, 385);
+}
+
+// Where as many elements are open as can be, the depth comes before the length of a name.
+#[test]
+fn deep_and_long(rt: HostRuntime) {
+    let mut input = [b'a'; 424];
+    for (i, byte) in input.iter_mut().enumerate() {
+        if i < 384 {
+            *byte = b"<a>"[i % 3];
+        } else if i == 384 {
+            *byte = b'<';
+        }
+    }
     refused(&rt, &input, 128, 35, 384);
+}
+
+// No more events are heard than asked for.
+#[test]
+fn heard_in_part(rt: HostRuntime) {
+    let mut source = Xml::new(b"<a><b/></b>");
+    assert_eq!(rt; drained(&mut source, 0), (0, None));
+    assert_eq!(rt; drained(&mut source, 1), (1, None));
+    assert_eq!(rt; drained(&mut source, 2), (2, None));
+    assert_eq!(rt; drained(&mut source, 1), (0, Some(XmlFault::WrongName(9))));
+}
+
+// A name as long as can be.
+#[test]
+fn long_names(rt: HostRuntime) -> Result<(), Fail> {
+    let input = b"<a1234567890123456789012345678901></a1234567890123456789012345678901>";
+    let mut source = Xml::new(input);
+    assert_eq!(rt; source.look_ahead()?, &input[1..33]);
+    let label = Name::try_from(&input[1..33])?;
+    assert_eq!(rt; source.next()?, Some(Event::Open(label)));
+    assert_eq!(rt; drained(&mut source, MANY), (1, None));
+    let mut empty = Xml::new(b"<a1234567890123456789012345678901/>");
+    assert_eq!(rt; drained(&mut empty, MANY), (2, None));
+    Ok(())
 }
 
 #[test]
@@ -157,7 +209,20 @@ fn looks(rt: HostRuntime) -> Result<(), Fail> {
     assert_eq!(rt; source.look_ahead(), Err(LookFault::Begun));
     assert_eq!(rt; drained(&mut source, MANY), (3, None));
     assert_eq!(rt; source.look_ahead(), Err(LookFault::Begun));
+    assert_eq!(rt;
+        (LookFault::Begun.number(), LookFault::Begun.place()),
+        (25, None)
+    );
     Ok(())
+}
+
+// The closing of an empty element is still to come.
+#[test]
+fn looks_within_an_empty_element(rt: HostRuntime) {
+    let mut source = Xml::new(b"<a/>");
+    assert_eq!(rt; drained(&mut source, 1), (1, None));
+    assert_eq!(rt; source.look_ahead(), Err(LookFault::Begun));
+    assert_eq!(rt; drained(&mut source, MANY), (1, None));
 }
 
 // The look ahead answers the fault that next would, and next does then.
@@ -165,6 +230,9 @@ fn looks(rt: HostRuntime) -> Result<(), Fail> {
 fn looks_in_vain(rt: HostRuntime) {
     for (input, number, place) in [
         ("", 31, 0),
+        ("x", 30, 0),
+        ("<", 31, 1),
+        ("</", 31, 2),
         (" <!-- a --> ", 31, 12),
         ("<a b<", 30, 4),
         ("</a", 33, 2),
@@ -179,5 +247,6 @@ fn looks_in_vain(rt: HostRuntime) {
         };
         assert_eq!(&rt; (fault.number(), fault.place()), (number, place));
         assert_eq!(&rt; source.next(), Err(fault));
+        assert_eq!(&rt; source.look_ahead(), Err(LookFault::Listing(fault)));
     }
 }
