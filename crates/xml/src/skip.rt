@@ -17,18 +17,15 @@ fn which(input: &[u8], at: usize) -> Markup
 {
     match rest(input, at) {
         [] => Markup::Nothing,
-        [b'<'] => Markup::Cut,
-        [b'<', b'/', ..] => Markup::EndTag,
-        [b'<', b'!', b'-', b'-', ..] => Markup::Comment,
-        [b'<', b'!', ..] => Markup::Declaration,
-        [b'<', b'?', ..] => Markup::Instruction,
-        [b'<', b, ..] => {
-            if starts_name(*b) {
-                Markup::StartTag
-            } else {
-                Markup::Stray
-            }
-        }
+        [b'<', behind @ ..] => match behind {
+            [] => Markup::Cut,
+            [b'/', ..] => Markup::EndTag,
+            [b'!', b'-', b'-', ..] => Markup::Comment,
+            [b'!', ..] => Markup::Declaration,
+            [b'?', ..] => Markup::Instruction,
+            [b, ..] if starts_name(*b) => Markup::StartTag,
+            [..] => Markup::Stray,
+        },
         [_, ..] => Markup::Text,
     }
 }
