@@ -124,7 +124,8 @@ word_back bs p h =
 eight_more : (bs : List ℕ) (p q : ℕ) → q ≡ p + 8 → take 8 (drop p bs) ++ drop q bs ≡ drop p bs
 eight_more bs p q e = ap (λ (k : ℕ). take 8 (drop p bs) ++ drop k bs) e ∙ ap (λ (ds : List ℕ). take 8 (drop p bs) ++ ds) (sym (drop-drop 8 p bs)) ∙ take-append-drop 8 (drop p bs)
 
-name_bytes : (bs : List ℕ) → length bs ≤ name_limit → AllByRecursion (λ b. b < 256) bs → bytes_of (name_of bs) ≡ bs
+-- the name of bytes has these bytes, if they are not too many
+pub name_bytes : (bs : List ℕ) → length bs ≤ name_limit → AllByRecursion (λ b. b < 256) bs → bytes_of (name_of bs) ≡ bs
 unfolding name_of
 name_bytes bs few h =
     let len : min name_limit (length bs) ≡ length bs = omega arith in

@@ -3,3 +3,4 @@ pub mod Heard
 pub mod TableSteps
 pub mod TableListed
 pub mod TableNodes
+pub mod ForestNodes

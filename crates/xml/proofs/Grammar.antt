@@ -5,8 +5,10 @@ use Rattle.std.proofs.lemmas.Bool.{both_ways}
 use Rattle.sources.specs.declared.event.Event.{Event}
 use Rattle.sources.specs.declared.event.Event.TheVariants.{Open, Close}
 use Rattle.sources.specs.Events.{MeansOnly}
-use Rattle.sources.specs.Forest.{Forest, events_of}
+use Rattle.sources.specs.Forest.{Forest, events_of, nodes_of}
 use Rattle.sources.specs.Forest.Forest.{none, tree}
+use Rattle.sources.specs.Nodes.{nodes}
+use Rattle.sources.proofs.ForestNodes.{forest_nodes}
 use Rattle.labels.specs.Spelling.{byte, part, is_white, starts_name}
 use Rattle.xml.specs.Markup.{markup, behind, two_dashes, IsComment, IsInstruction, IsStart, IsEnd}
 use Rattle.xml.specs.Shapes.{reaches}
@@ -247,7 +249,10 @@ module _ (xs : List ℕ) (es : List (Event (List ℕ))) (end : Option XmlFault) 
   only_meaning = record { means = d; only = λ ds to r. once xs 0 [] false ds to r es end d }
 
   pub done_document : DoneAsDocument xs es end
-  done_document = record { only_documents = λ e. told xs 0 [] false es end d e refl refl (omega arith); all_documents = all }
+  done_document = record { only_documents = only; all_documents = all }
     where
+      only : end ≡ None → (trees : Forest (List ℕ)) × Document xs trees × (es ≡ events_of trees) × (nodes es ≡ nodes_of None 0 trees)
+      only e = let (trees, g, eq) = told xs 0 [] false es end d e refl refl (omega arith) in (trees, g, eq, ap nodes eq ∙ forest_nodes trees)
+
       all : (trees : Forest (List ℕ)) → Document xs trees → (end ≡ None) × (es ≡ events_of trees)
       all trees g = let o = once xs 0 [] false es end d (events_of trees) None (reads_from xs 0 trees g) in (o.1, o.0)

@@ -3,3 +3,4 @@ pub mod Between
 pub mod Ends
 pub mod Steps
 pub mod Grammar
+pub mod Labels

@@ -2,6 +2,7 @@
 use Rattle.std.specs.Prelude.{◌≡◌, ℕ, Bool, true, false, List, [], ◌∷◌, map, reverse, Some, None, Ok, Err, Option, Result}
 use denote.Ref.{Bor}
 use Rattle.labels.specs.Spelling.{part}
+use Rattle.labels.specs.Names.{bytes_of}
 use Rattle.labels.specs.NameOf.{name_of}
 use Rattle.labels.specs.declared.name.Name.{Name}
 use Rattle.sources.specs.declared.event.Event.{Event}
@@ -38,6 +39,11 @@ xml_spelled s = pending s.closing (tags_meaning s.tags).events
 abbrev pub labelled : Event (List ℕ) → Event Name
 labelled (Open w) = Open (name_of w)
 labelled Close = Close
+
+-- an event with the bytes of its label
+abbrev pub spelled : Event Name → Event (List ℕ)
+spelled (Open l) = Open (bytes_of l)
+spelled Close = Close
 
 abbrev pub xml_events : Xml → List (Event Name)
 xml_events s = map labelled (xml_spelled s)

@@ -1,9 +1,9 @@
 //! The reader as a source.
-ghost use Rattle.std.specs.Prelude.{◌≡◌, false, []};
+ghost use Rattle.std.specs.Prelude.{◌≡◌, false, [], map};
 ghost use Rattle.sources.specs.Events.{MeansOnly, answer, rest};
 ghost use Rattle.xml.specs.Reading.{Reads};
 ghost use Rattle.xml.specs.Documents.{DoneAsDocument};
-ghost use Rattle.xml.specs.Means.{xml_events, xml_ending, xml_spelled, begun, begun_by};
+ghost use Rattle.xml.specs.Means.{xml_events, xml_ending, xml_spelled, spelled, begun, begun_by};
 ghost use Rattle.xml.specs.Nesting.{xml_nested};
 
 use crate::fault::XmlFault;
@@ -14,11 +14,13 @@ use sources::event::Event;
 use sources::source::Source;
 
 impl<'a> Xml<'a> {
-    /// A reader of the input, before any event. The input has one meaning, and is done exactly when it is a document.
-    #[tactic(auto, using(crate::proofs::Grammar::only_meaning, crate::proofs::Grammar::done_document))]
+    /// A reader of the input, before any event. The input has one meaning, in which each label has the bytes of its element's name,
+    /// and is done exactly when it is a document.
+    #[tactic(auto, using(crate::proofs::Grammar::only_meaning, crate::proofs::Grammar::done_document, crate::proofs::Labels::labels_back))]
     pub fn new(input: &'a [u8]) -> Xml<'a>
         ensures fresh { begun result ≡ false }
         ensures meaning { MeansOnly (Reads input.now 0 [] false) (xml_spelled result) (xml_ending result) }
+        ensures labels { map spelled (xml_events result) ≡ xml_spelled result }
         ensures document { DoneAsDocument input.now (xml_spelled result) (xml_ending result) }
     {
         Xml {
