@@ -7,11 +7,11 @@ use Rattle.sources.specs.declared.event.Event.TheVariants.{Open, Close}
 use Rattle.sources.specs.Events.{MeansOnly}
 use Rattle.sources.specs.Forest.{Forest, events_of}
 use Rattle.sources.specs.Forest.Forest.{none, tree}
-use Rattle.labels.specs.Spelling.{byte, part, is_white, starts_name}
-use Rattle.xml.specs.Markup.{markup, behind, two_dashes, IsComment, IsInstruction, IsStart, IsEnd}
+use Rattle.labels.specs.Spelling.{part, starts_name}
+use Rattle.xml.specs.Markup.{markup, behind, two_dashes, IsStart, IsEnd}
 use Rattle.xml.specs.Shapes.{reaches}
 use Rattle.xml.specs.Reading.{depth_limit, Room, Finds, Reads}
-use Rattle.xml.specs.Reading.Found.{finishes, skips, opens, closes}
+use Rattle.xml.specs.Reading.Found.{finishes, opens, closes}
 use Rattle.xml.specs.Reading.Finds.{finish, text as text_found, comment as comment_found, instruction as instruction_found, start as start_found, end_tag as end_found}
 use Rattle.xml.specs.Reading.Reads.{done, refused, skipped, opened, opened_empty, closed}
 use Rattle.xml.specs.Documents.{Begins, Misc, Production, Derives, DocumentFrom, Document, DoneAsDocument}
@@ -21,7 +21,8 @@ use Rattle.xml.specs.Documents.Derives.{empty_tag, tags, nothing, text, comment,
 use Rattle.xml.specs.declared.markup.Markup.{Markup}
 use Rattle.xml.specs.declared.markup.Markup.TheVariants.{Nothing, Text, EndTag, Comment, Declaration, Instruction, StartTag, Stray}
 use Rattle.xml.specs.declared.fault.XmlFault.{XmlFault}
-use Rattle.xml.proofs.Between.{found}
+use Rattle.xml.proofs.Between.{found, Skipped, skips_from, skipped_misc}
+use Rattle.xml.proofs.Between.Skipped.{by_text, by_comment, by_instruction}
 use Rattle.xml.specs.ScanLaws.{standing}
 use Rattle.xml.proofs.Once.{once}
 
@@ -96,18 +97,6 @@ markup_none (b ∷ bs) e = absurd (go (eqb b 60) e)
     go true e = behind_some bs e
     go false e = let z : ◌≡◌ {A = ℕ} 0 1 = cc in omega arith
 
--- what was found, by the markup
-data Skipped (xs : List ℕ) (p q : ℕ) (names : List (List ℕ)) : Type 0 where
-  by_text : Begins xs p Text → q ≡ p + 1 → (names ≡ [] → is_white (byte xs p) ≡ true) → Skipped xs p q names
-  by_comment : Begins xs p Comment → IsComment xs p q → Skipped xs p q names
-  by_instruction : Begins xs p Instruction → IsInstruction xs p q → Skipped xs p q names
-
-skips_from : (xs : List ℕ) (p : ℕ) (names : List (List ℕ)) (rooted : Bool) (k : Markup) (q : ℕ) →
-    Begins xs p k → Finds xs p names rooted k (skips q) → Skipped xs p q names
-skips_from xs p names rooted k q b (text_found h) = by_text b refl h
-skips_from xs p names rooted k q b (comment_found h) = by_comment b h
-skips_from xs p names rooted k q b (instruction_found h) = by_instruction b h
-
 skips_within : (xs : List ℕ) (p q : ℕ) (names : List (List ℕ)) → Skipped xs p q names → q ≤ length xs
 skips_within xs p q names (by_text b e h) = omega (arith, reaches xs p Text b (omega arith))
 skips_within xs p q names (by_comment b d) = let e = d.ends in omega (arith, standing xs (d.dashes + 1 + 1) 62 d.closes.1.1.0 (omega arith))
@@ -138,9 +127,7 @@ Tails xs (w ∷ ns) p es =
 
 tails_skip : (xs : List ℕ) (p q : ℕ) (names : List (List ℕ)) (es : List (Event (List ℕ))) →
     Skipped xs p q names → Tails xs names q es → Tails xs names p es
-tails_skip xs p q [] es (by_text b e h) t = (t.0, space b (h refl) (subst (λ x. Misc xs x (length xs)) e t.1))
-tails_skip xs p q [] es (by_comment b d) t = (t.0, comment_misc b d t.1)
-tails_skip xs p q [] es (by_instruction b d) t = (t.0, instruction_misc b d t.1)
+tails_skip xs p q [] es s t = (t.0, skipped_misc xs p q (length xs) s t.1)
 tails_skip xs p q (w ∷ ns) es (by_text b e h) (s, m, r, trees, cs, c, g, i, same, on, eq) =
     (s, m, r, trees, cs, text b (subst (λ x. Derives xs content (suc (length ns)) x s trees) e c), g, i, same, on, eq)
 tails_skip xs p q (w ∷ ns) es (by_comment b d) (s, m, r, trees, cs, c, g, i, same, on, eq) = (s, m, r, trees, cs, comment b d c, g, i, same, on, eq)
@@ -202,12 +189,8 @@ abbrev Told : List ℕ → ℕ → List (Event (List ℕ)) → Type 0
 Told xs p es = (trees : Forest (List ℕ)) × DocumentFrom xs p trees × (es ≡ events_of trees)
 
 told_skip : (xs : List ℕ) (p q : ℕ) (es : List (Event (List ℕ))) → Skipped xs p q [] → Told xs q es → Told xs p es
-told_skip xs p q es (by_text b e h) (trees, d, eq) =
-    (trees, record { start = d.start; stop = d.stop; before = space b (h refl) (subst (λ x. Misc xs x d.start) e d.before); root = d.root; behind = d.behind }, eq)
-told_skip xs p q es (by_comment b i) (trees, d, eq) =
-    (trees, record { start = d.start; stop = d.stop; before = comment_misc b i d.before; root = d.root; behind = d.behind }, eq)
-told_skip xs p q es (by_instruction b i) (trees, d, eq) =
-    (trees, record { start = d.start; stop = d.stop; before = instruction_misc b i d.before; root = d.root; behind = d.behind }, eq)
+told_skip xs p q es s (trees, d, eq) =
+    (trees, record { start = d.start; stop = d.stop; before = skipped_misc xs p q d.start s d.before; root = d.root; behind = d.behind }, eq)
 
 told : (xs : List ℕ) (p : ℕ) (names : List (List ℕ)) (rooted : Bool) (es : List (Event (List ℕ))) (end : Option XmlFault) →
     Reads xs p names rooted es end → end ≡ None → names ≡ [] → rooted ≡ false → p ≤ length xs → Told xs p es

@@ -31,9 +31,11 @@ use Rattle.labels.specs.declared.name.Name.{Name}
 use Rattle.xml.specs.declared.fault.XmlFault.{XmlFault}
 use Rattle.xml.specs.declared.scan.Opening.{Opening as Start}
 use Rattle.xml.specs.declared.markup.Markup.TheVariants.{StartTag, EndTag}
-use Rattle.xml.specs.Markup.{markup, EndEnds}
+use Rattle.xml.specs.Markup.{markup, EndEnds, IsStart}
+use Rattle.xml.specs.Documents.{Begins}
+use Rattle.xml.specs.Documents.Misc.{nothing as no_misc}
 use Rattle.xml.proofs.Once.{once}
-use Rattle.xml.proofs.Between.{found}
+use Rattle.xml.proofs.Between.{found, passes_misc}
 
 -- what a tag leaves of a meaning
 pub record Moves (es : List (Event (List ℕ))) (end : Option XmlFault) (ds : List (Event (List ℕ))) (to : Option XmlFault) (t : Tag) : Type 0 where
@@ -65,6 +67,12 @@ module _ (xs : List ℕ) (p : ℕ) (names : List (List ℕ)) (rooted : Bool) whe
       let c : Reads xs p (w ∷ ns) rooted (Closing ∷ t.events) t.ending = closed (subst (λ k. FindsAt xs p k rooted (closes q)) e d) t.reads in
       let m = means (Closing ∷ t.events) t.ending (subst (λ k. Reads xs p k rooted (Closing ∷ t.events) t.ending) (sym e) c) in
       record { events = rw m.0; ending = sym m.1 }
+
+  -- an element's opening is the first event
+  pub opens_first : (n q : ℕ) (e : Bool) → FindsAt xs p names rooted (opens n q e) →
+      (others : List (Event (List ℕ))) × ((reading xs p names rooted).events ≡ Opening (part xs (p + 1) n) ∷ others)
+  opens_first n q false d = let t = reading xs q (part xs (p + 1) n ∷ names) true in (t.events, (means _ _ (opened d t.reads)).0)
+  opens_first n q true d = let t = reading xs q names true in (Closing ∷ t.events, (means _ _ (opened_empty d t.reads)).0)
 
 passed : (xs : List ℕ) (inside : Bool) (p q : ℕ) (names : List (List ℕ)) (rooted : Bool) (es : List (Event (List ℕ))) (end : Option XmlFault) →
     Passes xs inside p q → some names ≡ inside → Reads xs q names rooted es end → Reads xs p names rooted es end
@@ -148,26 +156,30 @@ pub open_found : (xs : List ℕ) (p : ℕ) (names : List (List ℕ)) (rooted : B
 open_found xs p [] rooted k q (end_tag i f) = absurd i
 open_found xs p (n ∷ ns) rooted k q f = omega arith
 
+pub root_room : Room [] false
+root_room = record { alone = λ _. refl; few = omega arith }
+
 pub root_fails : (xs : List ℕ) (p q : ℕ) (f : XmlFault) → Passes xs false p q → FindsAt xs q [] false (refuses (number f) (place f)) → RootFails xs p f
 root_fails xs p q f d g =
     let s = passes_same xs false p q [] false d refl in
     let m = means xs q [] false [] (Some f) (refused f g) in
     record { none = s.0 ∙ m.0; ends = s.1 ∙ m.1 }
 
-pub root_named : (xs : List ℕ) (p q n r : ℕ) (e : Bool) (w : List ℕ) → w ≡ part xs (q + 1) n → Passes xs false p q → FindsAt xs q [] false (opens n r e) → RootNamed xs p w
-root_named xs p q n r false w c d g =
+pub root_named : (xs : List ℕ) (p q n r : ℕ) (e : Bool) (w : List ℕ) → w ≡ part xs (q + 1) n → Passes xs false p q →
+    Begins xs q StartTag → IsStart xs q n r e → RootNamed xs p w
+root_named xs p q n r e w c d b i =
     let s = passes_same xs false p q [] false d refl in
-    let t = reading xs r (part xs (q + 1) n ∷ []) true in
-    let m = means xs q [] false _ _ (opened g t.reads) in
-    record { others = t.events; first = s.0 ∙ m.0 ∙ ap (λ x. Opening x ∷ t.events) (sym c); from = q + 1; to = n; cut = c }
-root_named xs p q n r true w c d g =
-    let s = passes_same xs false p q [] false d refl in
-    let t = reading xs r [] true in
-    let m = means xs q [] false _ _ (opened_empty g t.reads) in
-    record { others = Closing ∷ t.events; first = s.0 ∙ m.0 ∙ ap (λ x. Opening x ∷ Closing ∷ t.events) (sym c); from = q + 1; to = n; cut = c }
-
-pub root_room : Room [] false
-root_room = record { alone = λ _. refl; few = omega arith }
+    let o = opens_first xs q [] false n r e (found xs q [] false StartTag _ (sym b) (start root_room i)) in
+    record {
+      at = q;
+      before = passes_misc xs p q q d no_misc;
+      begins = b;
+      stop = n;
+      name = i.name;
+      cut = c;
+      others = o.0;
+      first = s.0 ∙ o.1 ∙ ap (λ x. Opening x ∷ o.0) (sym c);
+    }
 
 pub begun_open : (s : Tags) → 0 < length (tags_names s) → s.rooted ≡ true
 begun_open s d = elim (cases_Bool s.rooted) [ inl r ↦ r | inr r ↦ let z : length (tags_names s) ≡ 0 = ap (λ ns. length (open_names ns)) (s.fresh r) in absurd (omega arith) ]
