@@ -11,7 +11,7 @@ use Rattle.xml.specs.Inner.{Told, CloseMissing}
 use Rattle.xml.specs.Shapes.{slash_tag, bracket_tag, no_close}
 use Rattle.xml.specs.declared.fault.ScanFault.{ScanFault}
 use Rattle.xml.specs.declared.fault.ScanFault.TheVariants.{Byte, End, LongName}
-use Rattle.xml.specs.ScanLaws.{standing}
+use Rattle.xml.specs.ScanLaws.{run_out, standing}
 
 -- where a search for the first place that fails the test ends
 pub first_runs : (ok : ℕ → Bool) (end p : ℕ) (r : Option ℕ) →
@@ -45,10 +45,7 @@ module _ (xs : List ℕ) (n : ℕ) (r : Result ℕ ScanFault) where
 
       bad : (f : ScanFault) → CloseMissing xs p f → Told (TagFault xs n) f
       bad (Byte c) (e, w, b) = subst (TagFault xs n 30) (sym e) (opened p a l (no_close (byte xs p) (l.stops w) b))
-      bad (End c) (w, e) =
-          let within = l.within in
-          let g : p ≡ length xs = omega arith in
-          subst (TagFault xs n 31) (sym e) (unclosed a (subst (Longest (λ i. plain (byte xs i)) (length xs) n) g l))
+      bad (End c) (w, e) = subst (TagFault xs n 31) (sym e) (unclosed a (run_out _ _ n p l w))
       bad (LongName c) h = absurd h
 
   pub white_closes : (p : ℕ) → Longest (λ i. is_white (byte xs i)) (length xs) n p → Closes xs p r → MatchResult r (EndEnds xs n) (Told (EndFault xs n))
@@ -59,8 +56,5 @@ module _ (xs : List ℕ) (n : ℕ) (r : Result ℕ ScanFault) where
 
       bad : (f : ScanFault) → CloseMissing xs p f → Told (EndFault xs n) f
       bad (Byte c) (e, w, b) = subst (EndFault xs n 30) (sym e) (byte_behind p l w b)
-      bad (End c) (w, e) =
-          let within = l.within in
-          let g : p ≡ length xs = omega arith in
-          subst (EndFault xs n 31) (sym e) (ended (subst (Longest (λ i. is_white (byte xs i)) (length xs) n) g l))
+      bad (End c) (w, e) = subst (EndFault xs n 31) (sym e) (ended (run_out _ _ n p l w))
       bad (LongName c) h = absurd h

@@ -22,7 +22,6 @@ longest_by ok end (suc n) p e = go (cases_Bool (ok p)) (longest_by ok end n (p +
     go (inr h) r = (p, record { late = omega arith; within = omega arith; all = λ i a b. absurd (omega arith); stops = λ _. h })
     go (inl h) (q, l) =
         let late = l.late in
-        let none : (i : ℕ) → p ≤ i → i < p → ok i ≡ true = λ i a b. absurd (omega arith) in
         (q, record { late = omega arith; within = l.within; all = λ i a b. both i a b (cases_lt i (p + 1)); stops = l.stops })
       where
         both : (i : ℕ) → p ≤ i → i < q → ((i < p + 1) ⊎ (p + 1 ≤ i)) → ok i ≡ true
@@ -39,6 +38,10 @@ longest_same ok end p q r l m = go (cases_order q r)
     go (inl e) = e
     go (inr (inl h)) = let w = m.within in absurd (both_ways (ok q) (l.stops (omega arith)) (m.all q l.late h))
     go (inr (inr h)) = let w = l.within in absurd (both_ways (ok r) (m.stops (omega arith)) (l.all r m.late h))
+
+-- a run that reaches the end ends there
+pub run_out : (ok : ℕ → Bool) (end p q : ℕ) → Longest ok end p q → end ≤ q → Longest ok end p end
+run_out ok end p q l h = let w = l.within in let e : q ≡ end = omega arith in subst (Longest ok end p) e l
 
 -- a byte that is not 0 stands within
 pub standing : (xs : List ℕ) (i b : ℕ) → byte xs i ≡ b → 0 < b → i < length xs

@@ -20,7 +20,7 @@ use Rattle.xml.specs.Reading.{depth_limit, Room, Innermost, Finds, Meaning}
 use Rattle.xml.specs.Reading.Found.{finishes, skips, opens, closes, refuses}
 use Rattle.xml.specs.Reading.Finds.{finish, text, comment, instruction, start, end_tag}
 use Rattle.xml.specs.Reading.Reads.{done, refused, skipped, opened, opened_empty, closed}
-use Rattle.xml.specs.ScanLaws.{longest}
+use Rattle.xml.specs.ScanLaws.{longest, run_out}
 use Rattle.xml.specs.FaultLaws.{early, no_text, comment_fault, instruction_fault, declaration, cut, stray, second, deep, start_named, start_rested, end_named, wrong_name, end_fault}
 use Rattle.xml.specs.declared.markup.Markup.{Markup}
 use Rattle.xml.specs.declared.markup.Markup.TheVariants.{Nothing, Text, EndTag, Comment, Declaration, Instruction, StartTag, Cut, Stray}
@@ -78,10 +78,7 @@ module _ (xs : List ℕ) where
       fits d l (inl w) =
           let b = pair_here xs 63 62 d (l.stops w) in
           good (d + 2) (record { close = d; first = l; closes = (b.0, (b.1, tt)); ends = refl })
-      fits d l (inr w) =
-          let within = l.within in
-          let e : d ≡ length xs = omega arith in
-          bad (Scan (End (length xs))) (instruction_ended (subst (λ q. Longest (apart xs 63 62) (length xs) (p + 2) q) e l))
+      fits d l (inr w) = bad (Scan (End (length xs))) (instruction_ended (run_out _ _ (p + 2) d l w))
 
       go : ((d : ℕ) × Longest (apart xs 63 62) (length xs) (p + 2) d) → Outcome (IsInstruction xs p) (InstructionFault xs p)
       go (d, l) = fits d l (cases_lt d (length xs))
@@ -95,10 +92,7 @@ module _ (xs : List ℕ) where
 
       fits : (c : ℕ) → Longest (λ i. is_white (byte xs i)) (length xs) n c → ((c < length xs) ⊎ (length xs ≤ c)) → Outcome (EndEnds xs n) (EndFault xs n)
       fits c l (inl w) = behind_it c l w (cases_eq (byte xs c) 62)
-      fits c l (inr w) =
-          let within = l.within in
-          let e : c ≡ length xs = omega arith in
-          bad (Scan (End (length xs))) (end_ended (subst (λ q. Longest (λ i. is_white (byte xs i)) (length xs) n q) e l))
+      fits c l (inr w) = bad (Scan (End (length xs))) (end_ended (run_out _ _ n c l w))
 
       go : ((c : ℕ) × Longest (λ i. is_white (byte xs i)) (length xs) n c) → Outcome (EndEnds xs n) (EndFault xs n)
       go (c, l) = fits c l (cases_lt c (length xs))
@@ -112,10 +106,7 @@ module _ (xs : List ℕ) where
 
       fits : (c : ℕ) → Longest (λ i. plain (byte xs i)) (length xs) n c → ((c < length xs) ⊎ (length xs ≤ c)) → Outcome (TagEnds xs n) (TagFault xs n)
       fits c l (inl w) = which c l w (cases_eq (byte xs c) 60)
-      fits c l (inr w) =
-          let within = l.within in
-          let e : c ≡ length xs = omega arith in
-          bad (Scan (End (length xs))) (unclosed b (subst (λ q. Longest (λ i. plain (byte xs i)) (length xs) n q) e l))
+      fits c l (inr w) = bad (Scan (End (length xs))) (unclosed b (run_out _ _ n c l w))
 
       go : ((c : ℕ) × Longest (λ i. plain (byte xs i)) (length xs) n c) → Outcome (TagEnds xs n) (TagFault xs n)
       go (c, l) = fits c l (cases_lt c (length xs))
