@@ -23,7 +23,7 @@ use Rattle.xml.specs.declared.markup.Markup.TheVariants.{Nothing, Text, EndTag, 
 use Rattle.xml.specs.declared.fault.XmlFault.{XmlFault}
 use Rattle.xml.proofs.Between.{found, Skipped, skips_from, skipped_misc}
 use Rattle.xml.proofs.Between.Skipped.{by_text, by_comment, by_instruction}
-use Rattle.xml.specs.ScanLaws.{standing}
+use Rattle.xml.specs.ScanLaws.{standing, comment_within, instruction_within}
 use Rattle.xml.proofs.Once.{once}
 
 -- the events of a tree and of those behind it
@@ -99,8 +99,8 @@ markup_none (b ∷ bs) e = absurd (go (eqb b 60) e)
 
 skips_within : (xs : List ℕ) (p q : ℕ) (names : List (List ℕ)) → Skipped xs p q names → q ≤ length xs
 skips_within xs p q names (by_text b e h) = omega (arith, reaches xs p Text b (omega arith))
-skips_within xs p q names (by_comment b d) = let e = d.ends in omega (arith, standing xs (d.dashes + 1 + 1) 62 d.closes.1.1.0 (omega arith))
-skips_within xs p q names (by_instruction b d) = let e = d.ends in omega (arith, standing xs (d.close + 1) 62 d.closes.1.0 (omega arith))
+skips_within xs p q names (by_comment b d) = comment_within xs p q d
+skips_within xs p q names (by_instruction b d) = instruction_within xs p q d
 
 opens_from : (xs : List ℕ) (p : ℕ) (names : List (List ℕ)) (rooted : Bool) (k : Markup) (n q : ℕ) (e : Bool) →
     Begins xs p k → Finds xs p names rooted k (opens n q e) → Begins xs p StartTag × Room names rooted × IsStart xs p n q e

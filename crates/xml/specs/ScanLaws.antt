@@ -94,11 +94,14 @@ module _ (xs : List ℕ) where
   pub comment_same : (p q r : ℕ) → IsComment xs p q → IsComment xs p r → q ≡ r
   comment_same p q r a b = let e = longest_same _ _ (p + 4) a.dashes b.dashes a.first b.first in let f = a.ends in let g = b.ends in omega arith
 
+  pub comment_within : (p q : ℕ) → IsComment xs p q → q ≤ length xs
+  comment_within p q a = let e = a.ends in omega (arith, standing xs (a.dashes + 1 + 1) 62 a.closes.1.1.0 (omega arith))
+
   pub comment_apart : (p q k at : ℕ) → IsComment xs p q → CommentFault xs (p + 4) k at → ⊥
   comment_apart p q k at a (comment_ended d l h) =
       let e = longest_same _ _ (p + 4) a.dashes d a.first l in
-      let s = standing xs (a.dashes + 1 + 1) 62 a.closes.1.1.0 (omega arith) in
-      omega arith
+      let f = a.ends in
+      omega (arith, comment_within p q a)
   comment_apart p q k at a (comment_byte d l h n) =
       let e = longest_same _ _ (p + 4) a.dashes d a.first l in
       let s : a.dashes + 1 + 1 ≡ d + 2 = omega arith in
@@ -113,11 +116,14 @@ module _ (xs : List ℕ) where
   pub instruction_same : (p q r : ℕ) → IsInstruction xs p q → IsInstruction xs p r → q ≡ r
   instruction_same p q r a b = let e = longest_same _ _ (p + 2) a.close b.close a.first b.first in let f = a.ends in let g = b.ends in omega arith
 
+  pub instruction_within : (p q : ℕ) → IsInstruction xs p q → q ≤ length xs
+  instruction_within p q a = let e = a.ends in omega (arith, standing xs (a.close + 1) 62 a.closes.1.0 (omega arith))
+
   pub instruction_apart : (p q k at : ℕ) → IsInstruction xs p q → InstructionFault xs p k at → ⊥
   instruction_apart p q k at a (instruction_ended l) =
       let e = longest_same _ _ (p + 2) a.close (length xs) a.first l in
-      let s = standing xs a.close 63 a.closes.0 (omega arith) in
-      omega arith
+      let f = a.ends in
+      omega (arith, instruction_within p q a)
 
   pub instruction_fault_same : (p k at j to : ℕ) → InstructionFault xs p k at → InstructionFault xs p j to → refuses k at ≡ refuses j to
   instruction_fault_same p k at j to (instruction_ended l) (instruction_ended m) = refl
