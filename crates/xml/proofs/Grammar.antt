@@ -185,26 +185,26 @@ tails xs p names rooted es end (closed {q = q} {w = w} {names = ns} {es = ds} f 
     (p, s.1.0, q, none, ds, nothing, s.0, i, s.1.1, t, refl)
 
 -- a document with these events
-abbrev Told : List ℕ → ℕ → List (Event (List ℕ)) → Type 0
-Told xs p es = (trees : Forest (List ℕ)) × DocumentFrom xs p trees × (es ≡ events_of trees)
+abbrev DocumentWith : List ℕ → ℕ → List (Event (List ℕ)) → Type 0
+DocumentWith xs p es = (trees : Forest (List ℕ)) × DocumentFrom xs p trees × (es ≡ events_of trees)
 
-told_skip : (xs : List ℕ) (p q : ℕ) (es : List (Event (List ℕ))) → Skipped xs p q [] → Told xs q es → Told xs p es
-told_skip xs p q es s (trees, d, eq) =
+document_skip : (xs : List ℕ) (p q : ℕ) (es : List (Event (List ℕ))) → Skipped xs p q [] → DocumentWith xs q es → DocumentWith xs p es
+document_skip xs p q es s (trees, d, eq) =
     (trees, record { start = d.start; stop = d.stop; before = skipped_misc xs p q d.start s d.before; root = d.root; behind = d.behind }, eq)
 
 told : (xs : List ℕ) (p : ℕ) (names : List (List ℕ)) (rooted : Bool) (es : List (Event (List ℕ))) (end : Option XmlFault) →
-    Reads xs p names rooted es end → end ≡ None → names ≡ [] → rooted ≡ false → p ≤ length xs → Told xs p es
+    Reads xs p names rooted es end → end ≡ None → names ≡ [] → rooted ≡ false → p ≤ length xs → DocumentWith xs p es
 told xs p names rooted es end (done f) e nil r h = absurd (both_ways _ r (finish_from xs p names rooted _ refl f).2)
 told xs p names rooted es end (refused g f) e nil r h = let z : ◌≡◌ {A = ℕ} 0 1 = cc in absurd (omega arith)
 told xs p names rooted es end (skipped {q = q} f d) e nil r h =
     let s = skips_from xs p names rooted _ q refl f in
-    told_skip xs p q es (subst (Skipped xs p q) nil s) (told xs q names rooted es end d e nil r (skips_within xs p q names s))
+    document_skip xs p q es (subst (Skipped xs p q) nil s) (told xs q names rooted es end d e nil r (skips_within xs p q names s))
 told xs p names rooted es end (opened {n = n} {q = q} {es = ds} f d) e nil r h =
     let s = opens_from xs p names rooted _ n q false refl f in
     let w = part xs (p + 1) n in
     root_open (subst (λ x. Tails xs (w ∷ x) q ds) nil (tails xs q (w ∷ names) true ds end d e refl (start_within xs p n q false s.2))) s.0 s.2
   where
-    root_open : Tails xs (part xs (p + 1) n ∷ []) q ds → Begins xs p StartTag → IsStart xs p n q false → Told xs p (Open (part xs (p + 1) n) ∷ ds)
+    root_open : Tails xs (part xs (p + 1) n ∷ []) q ds → Begins xs p StartTag → IsStart xs p n q false → DocumentWith xs p (Open (part xs (p + 1) n) ∷ ds)
     root_open (s, m, t, inside, cs, c, g, i, same, on, eq) b j =
         let w = part xs (p + 1) n in
         let all : Open w ∷ ds ≡ events_of (tree w inside none) = ap (λ x. Open w ∷ x) (eq ∙ ap (λ x. events_of inside ++ (Close ∷ x)) on.0) in

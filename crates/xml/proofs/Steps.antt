@@ -74,17 +74,17 @@ module _ (xs : List ℕ) (p : ℕ) (names : List (List ℕ)) (rooted : Bool) whe
   opens_first n q false d = let t = reading xs q (part xs (p + 1) n ∷ names) true in (t.events, (means _ _ (opened d t.reads)).0)
   opens_first n q true d = let t = reading xs q names true in (Closing ∷ t.events, (means _ _ (opened_empty d t.reads)).0)
 
-passed : (xs : List ℕ) (inside : Bool) (p q : ℕ) (names : List (List ℕ)) (rooted : Bool) (es : List (Event (List ℕ))) (end : Option XmlFault) →
+passes_read : (xs : List ℕ) (inside : Bool) (p q : ℕ) (names : List (List ℕ)) (rooted : Bool) (es : List (Event (List ℕ))) (end : Option XmlFault) →
     Passes xs inside p q → some names ≡ inside → Reads xs q names rooted es end → Reads xs p names rooted es end
-passed xs inside p q names rooted es end here i d = d
-passed xs inside p q names rooted es end (on {q = m} go by) i d = passed xs inside p m names rooted es end go i (skipped (by names rooted i) d)
+passes_read xs inside p q names rooted es end here i d = d
+passes_read xs inside p q names rooted es end (on {q = m} go by) i d = passes_read xs inside p m names rooted es end go i (skipped (by names rooted i) d)
 
 -- what goes by leaves the meaning
 pub passes_same : (xs : List ℕ) (inside : Bool) (p q : ℕ) (names : List (List ℕ)) (rooted : Bool) → Passes xs inside p q → some names ≡ inside →
     ((reading xs p names rooted).events ≡ (reading xs q names rooted).events) × ((reading xs p names rooted).ending ≡ (reading xs q names rooted).ending)
 passes_same xs inside p q names rooted d i =
     let t = reading xs q names rooted in
-    means xs p names rooted t.events t.ending (passed xs inside p q names rooted t.events t.ending d i t.reads)
+    means xs p names rooted t.events t.ending (passes_read xs inside p q names rooted t.events t.ending d i t.reads)
 
 pub none_open : (names : List (Bor (List ℕ))) → length names ≡ 0 → open_names names ≡ []
 none_open [] h = refl
@@ -151,10 +151,6 @@ end_at xs p names rooted n q b i s t = found xs p names rooted EndTag _ (sym b) 
 pub some_open : (names : List (List ℕ)) → some names ≡ not (eqb (length names) 0)
 some_open [] = refl
 some_open (n ∷ ns) = sym (ap not (ne_eqb (length (n ∷ ns)) 0 (λ e. omega arith)))
-
-pub open_found : (xs : List ℕ) (p : ℕ) (names : List (List ℕ)) (rooted : Bool) (k : Markup) (q : ℕ) → Finds xs p names rooted k (closes q) → 0 < length names
-open_found xs p [] rooted k q (end_tag i f) = absurd i
-open_found xs p (n ∷ ns) rooted k q f = omega arith
 
 pub root_room : Room [] false
 root_room = record { alone = λ _. refl; few = omega arith }

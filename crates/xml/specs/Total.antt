@@ -237,8 +237,11 @@ module _ (xs : List ℕ) (p : ℕ) (names : List (List ℕ)) (rooted : Bool) whe
   at_kind Cut e = fault (Scan (End (length xs))) cut
   at_kind Stray e = fault (Scan (Byte (p + 1))) stray
 
-none_open : (xs : List ℕ) (p : ℕ) (rooted : Bool) (k : Markup) (q : ℕ) → Finds xs p [] rooted k (closes q) → ⊥
-none_open xs p rooted k q (end_tag i d) = i
+-- where an element is closed, one is open
+pub open_found : (xs : List ℕ) (p : ℕ) (names : List (List ℕ)) (rooted : Bool) (k : Markup) (q : ℕ) →
+    Finds xs p names rooted k (closes q) → 0 < length names
+open_found xs p [] rooted k q (end_tag i d) = absurd i
+open_found xs p (n ∷ ns) rooted k q d = omega arith
 
 reading_end : (xs : List ℕ) (p : ℕ) (names : List (List ℕ)) (rooted : Bool) → markup (drop p xs) ≡ Nothing → Next xs p names rooted Nothing → Meaning xs p names rooted
 reading_end xs p names rooted e (stop d) = record { events = []; ending = None; reads = done (subst (λ k. Finds xs p names rooted k finishes) (sym e) d) }
@@ -254,7 +257,7 @@ reading_by xs zero p names rooted h =
 reading_by xs (suc fuel) p names rooted h = go (λ q ns r l. reading_by xs fuel q ns r l) (at_kind xs p names rooted (markup (drop p xs)) refl)
   where
     left : (q : ℕ) (ns : List (List ℕ)) → Finds xs p ns rooted (markup (drop p xs)) (closes q) → ((ms : List (List ℕ)) → Meaning xs q ms rooted) → Meaning xs p ns rooted
-    left q [] d m = absurd (none_open xs p rooted _ q d)
+    left q [] d m = let h = open_found xs p [] rooted _ q d in absurd (omega arith)
     left q (w ∷ ns) d m = let r = m ns in record { events = Close ∷ r.events; ending = r.ending; reads = closed d r.reads }
 
     go : ((q : ℕ) (ns : List (List ℕ)) (r : Bool) → length xs ≤ q + fuel → Meaning xs q ns r) → Next xs p names rooted (markup (drop p xs)) → Meaning xs p names rooted

@@ -7,8 +7,9 @@ use Rattle.xml.specs.declared.markup.Markup.TheVariants.{EndTag}
 use Rattle.xml.specs.declared.fault.XmlFault.TheVariants.{Scan, WrongName}
 use Rattle.xml.specs.declared.tags.Tag.TheVariants.{Close}
 use Rattle.xml.specs.ScanLaws.{standing}
+use Rattle.xml.specs.Total.{open_found}
 use Rattle.xml.proofs.Between.{found}
-use Rattle.xml.proofs.Steps.{end_at, fault_refuses, moves_give, closes_moves, pop_names, length_names, open_found, begun_open}
+use Rattle.xml.proofs.Steps.{end_at, fault_refuses, moves_give, closes_moves, pop_names, length_names, begun_open}
 use Rattle.xml.proofs.reader.Tags.leave.Goals as goal
 
 pub returns-in_err-name : goal.returns-in_err-name
