@@ -9,7 +9,7 @@ use Rattle.sources.specs.Forest.{Forest, events_of}
 use Rattle.sources.specs.Forest.Forest.{none, tree}
 use Rattle.labels.specs.Spelling.{part, starts_name}
 use Rattle.xml.specs.Markup.{markup, behind, two_dashes, IsStart, IsEnd}
-use Rattle.xml.specs.Shapes.{reaches}
+use Rattle.xml.specs.Shapes.{reaches, markup_none}
 use Rattle.xml.specs.Reading.{depth_limit, Room, Finds, Reads}
 use Rattle.xml.specs.Reading.Found.{finishes, opens, closes}
 use Rattle.xml.specs.Reading.Finds.{finish, text as text_found, comment as comment_found, instruction as instruction_found, start as start_found, end_tag as end_found}
@@ -77,26 +77,6 @@ module _ (xs : List ℕ) where
       (is_reads content k r q others c names true ds end l (f.0, refl) d))
 
 -- from the reading to the grammar
-behind_some : (bs : List ℕ) → behind bs ≡ Nothing → ⊥
-behind_some [] e = let z : ◌≡◌ {A = ℕ} 0 1 = cc in omega arith
-behind_some (b ∷ bs) e = go (eqb b 47) (eqb b 33) (two_dashes bs) (eqb b 63) (starts_name b) e
-  where
-    go : (t₁ t₂ t₃ t₄ t₅ : Bool) → cond t₁ EndTag (cond t₂ (cond t₃ Comment Declaration) (cond t₄ Instruction (cond t₅ StartTag Stray))) ≡ Nothing → ⊥
-    go true t₂ t₃ t₄ t₅ e = let z : ◌≡◌ {A = ℕ} 0 1 = cc in omega arith
-    go false true true t₄ t₅ e = let z : ◌≡◌ {A = ℕ} 0 1 = cc in omega arith
-    go false true false t₄ t₅ e = let z : ◌≡◌ {A = ℕ} 0 1 = cc in omega arith
-    go false false t₃ true t₅ e = let z : ◌≡◌ {A = ℕ} 0 1 = cc in omega arith
-    go false false t₃ false true e = let z : ◌≡◌ {A = ℕ} 0 1 = cc in omega arith
-    go false false t₃ false false e = let z : ◌≡◌ {A = ℕ} 0 1 = cc in omega arith
-
-markup_none : (bs : List ℕ) → markup bs ≡ Nothing → length bs ≡ 0
-markup_none [] e = refl
-markup_none (b ∷ bs) e = absurd (go (eqb b 60) e)
-  where
-    go : (t : Bool) → cond t (behind bs) Text ≡ Nothing → ⊥
-    go true e = behind_some bs e
-    go false e = let z : ◌≡◌ {A = ℕ} 0 1 = cc in omega arith
-
 skips_within : (xs : List ℕ) (p q : ℕ) (names : List (List ℕ)) → Skipped xs p q names → q ≤ length xs
 skips_within xs p q names (by_text b e h) = omega (arith, reaches xs p Text b (omega arith))
 skips_within xs p q names (by_comment b d) = comment_within xs p q d

@@ -37,26 +37,38 @@ least StartTag = 2
 least Cut = 1
 least Stray = 2
 
-behind_long : (bs : List ℕ) → least (behind bs) ≤ suc (length bs)
-behind_long [] = omega arith
+-- it is not the end, and n bytes have room for it
+abbrev Fits : Markup → ℕ → Type 0
+Fits k n = (0 < least k) × (least k ≤ n)
+
+behind_long : (bs : List ℕ) → Fits (behind bs) (suc (length bs))
+behind_long [] = (omega arith, omega arith)
 behind_long (b ∷ bs) = go (b == 47) (b == 33) (two_dashes bs) refl (b == 63) (starts_name b)
   where
     go : (t₁ t₂ t₃ : Bool) → two_dashes bs ≡ t₃ → (t₄ t₅ : Bool) →
-        least (cond t₁ EndTag (cond t₂ (cond t₃ Comment Declaration) (cond t₄ Instruction (cond t₅ StartTag Stray)))) ≤ suc (suc (length bs))
-    go true t₂ t₃ e t₄ t₅ = omega arith
-    go false true true e t₄ t₅ = omega (arith, dashes_long bs e)
-    go false true false e t₄ t₅ = omega arith
-    go false false t₃ e true t₅ = omega arith
-    go false false t₃ e false true = omega arith
-    go false false t₃ e false false = omega arith
+        Fits (cond t₁ EndTag (cond t₂ (cond t₃ Comment Declaration) (cond t₄ Instruction (cond t₅ StartTag Stray)))) (suc (suc (length bs)))
+    go true t₂ t₃ e t₄ t₅ = (omega arith, omega arith)
+    go false true true e t₄ t₅ = (omega arith, omega (arith, dashes_long bs e))
+    go false true false e t₄ t₅ = (omega arith, omega arith)
+    go false false t₃ e true t₅ = (omega arith, omega arith)
+    go false false t₃ e false true = (omega arith, omega arith)
+    go false false t₃ e false false = (omega arith, omega arith)
+
+some_long : (b : ℕ) (bs : List ℕ) → Fits (markup (b ∷ bs)) (suc (length bs))
+some_long b bs = go (b == 60) (behind_long bs)
+  where
+    go : (t : Bool) → Fits (behind bs) (suc (length bs)) → Fits (cond t (behind bs) Text) (suc (length bs))
+    go true h = h
+    go false h = (omega arith, omega arith)
 
 markup_long : (bs : List ℕ) → least (markup bs) ≤ length bs
 markup_long [] = omega arith
-markup_long (b ∷ bs) = go (b == 60) (behind_long bs)
-  where
-    go : (t : Bool) → least (behind bs) ≤ suc (length bs) → least (cond t (behind bs) Text) ≤ suc (length bs)
-    go true h = h
-    go false h = omega arith
+markup_long (b ∷ bs) = (some_long b bs).1
+
+-- where nothing begins, no byte is left
+pub markup_none : (bs : List ℕ) → markup bs ≡ Nothing → length bs ≡ 0
+markup_none [] e = refl
+markup_none (b ∷ bs) e = let h = (some_long b bs).0 in absurd (omega (arith, ap least e))
 
 -- the bytes from p on are so many at least
 pub reaches : (xs : List ℕ) (p : ℕ) (k : Markup) → markup (drop p xs) ≡ k → 0 < least k → p + least k ≤ length xs
