@@ -1,5 +1,6 @@
 -- A listing is done exactly when it is a document.
 use Rattle.std.proofs.Common.{◌≡◌, ℕ, suc, ◌+◌, ◌<◌, ◌≤◌, Bool, true, false, cond, eqb, List, [], ◌∷◌, ◌++◌, length, drop, None, Option, sym, refl, ap, ◌∙◌, subst, arith, length-drop}
+use Prim.Native.Char.{code}
 use Rattle.std.proofs.lemmas.List.{append_assoc, append-nil, drop_all}
 use Rattle.std.proofs.lemmas.Bool.{both_ways}
 use Rattle.sources.specs.declared.event.Event.{Event}
@@ -87,7 +88,7 @@ opens_from : (xs : List ℕ) (p : ℕ) (names : List (List ℕ)) (rooted : Bool)
 opens_from xs p names rooted k n q e b (start_found r i) = (b, r, i)
 
 start_within : (xs : List ℕ) (p n q : ℕ) (e : Bool) → IsStart xs p n q e → q ≤ length xs
-start_within xs p n q e i = let g = i.ends in omega (arith, standing xs i.close 62 i.tag.closes (omega arith))
+start_within xs p n q e i = let g = i.ends in omega (arith, standing xs i.close (code ">") i.tag.closes (omega arith))
 
 closes_from : (xs : List ℕ) (p : ℕ) (w : List ℕ) (names : List (List ℕ)) (rooted : Bool) (k : Markup) (q : ℕ) →
     Begins xs p k → Finds xs p (w ∷ names) rooted k (closes q) → Begins xs p EndTag × ((n : ℕ) × (part xs (p + 2) n ≡ w) × IsEnd xs p n q)
@@ -160,7 +161,7 @@ tails xs p names rooted es end (closed {q = q} {w = w} {names = ns} {es = ds} f 
     let s = closes_from xs p w ns rooted _ q refl f in
     let i = s.1.2 in
     let g = i.ends in
-    let l = standing xs i.close 62 i.tag.closes (omega arith) in
+    let l = standing xs i.close (code ">") i.tag.closes (omega arith) in
     let t = tails xs q ns rooted ds end d e r (omega arith) in
     (p, s.1.0, q, none, ds, nothing, s.0, i, s.1.1, t, refl)
 

@@ -1,4 +1,5 @@
 use Rattle.std.proofs.Common.{◌+◌, ◌<◌, length, sym, refl, arith}
+use Prim.Native.Char.{code}
 use Rattle.std.proofs.lemmas.Result.{err_from_is_err_and}
 use Rattle.std.proofs.lemmas.Bool.{both_ways}
 use Rattle.xml.specs.Means.{tags_names}
@@ -40,7 +41,7 @@ invariant_of-self c =
     let n = c.in_ok-name.ensures in
     let t = c.in_ok-close.ensures n.0.ends.within in
     let f = end_at s.input.now s.place (tags_names s) s.rooted c.in_ok-name.name q c.requires (c.if-not-is_innermost.ensures.0 refl) n t in
-    let l = standing s.input.now q 62 t.closes (omega arith) in
+    let l = standing s.input.now q (code ">") t.closes (omega arith) in
     record {
       within = omega arith;
       fresh = λ r. absurd (both_ways _ r (begun_open s (open_found s.input.now s.place (tags_names s) s.rooted _ (q + 1) f)));
