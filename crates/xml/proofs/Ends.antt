@@ -1,6 +1,6 @@
 -- What the scans of tags find, as the meaning has it.
 use Rattle.std.specs.Option.{MatchOption, unwrap_or}
-use Rattle.std.proofs.Common.{◌≡◌, ℕ, ◌+◌, ◌<◌, ◌≤◌, Bool, true, false, ◌||◌, eqb, List, length, Some, None, MatchResult, Option, Result, sym, subst, arith}
+use Rattle.std.proofs.Common.{◌≡◌, ℕ, ◌+◌, ◌<◌, ◌≤◌, Bool, true, false, ◌||◌, ◌==◌, List, length, Some, None, MatchResult, Option, Result, sym, subst, arith}
 use Prim.Native.Char.{code}
 use Rattle.std.proofs.lemmas.Result.{MatchResult-weaker}
 use Rattle.labels.specs.Spelling.{byte, is_white, Longest}
@@ -37,7 +37,7 @@ module _ (xs : List ℕ) (n : ℕ) (r : Result ℕ ScanFault) where
       bad (End c) (w, e) = subst (TagFault xs n 31) (sym e) (slash_ended s w)
       bad (LongName c) h = absurd h
 
-  pub bracket_closes : (is_white (byte xs n) || eqb (byte xs n) (code ">")) ≡ true → (p : ℕ) → Longest (λ i. plain (byte xs i)) (length xs) n p →
+  pub bracket_closes : (is_white (byte xs n) || byte xs n == code ">") ≡ true → (p : ℕ) → Longest (λ i. plain (byte xs i)) (length xs) n p →
       Closes xs p r → MatchResult r (TagEnds xs n) (Told (TagFault xs n))
   bracket_closes a p l h = MatchResult-weaker r h good bad
     where

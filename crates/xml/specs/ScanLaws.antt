@@ -1,5 +1,5 @@
 -- The scans of markup find one end or one fault, and not both.
-use Rattle.std.specs.Prelude.{◌≡◌, ℕ, zero, suc, ◌+◌, ◌-◌, ◌<◌, ◌≤◌, Bool, true, false, cond, ◌||◌, ◌⊎◌, List, length, refl}
+use Rattle.std.specs.Prelude.{◌≡◌, ℕ, zero, suc, ◌+◌, ◌-◌, ◌<◌, ◌≤◌, Bool, true, false, cond, ◌||◌, ◌⊎◌, List, length, ◌==◌, refl}
 use Rattle.std.proofs.Common.{eqb, ltb, sym, ap, ◌∙◌, subst, inl, inr, arith}
 use Prim.Native.Char.{code}
 use Rattle.std.proofs.lemmas.List.{get_or_past}
@@ -154,7 +154,7 @@ module _ (xs : List ℕ) where
   tag_same n q r a b = longest_same _ _ n q r a.rest b.rest
 
   pub tag_apart : (n q k at : ℕ) → TagEnds xs n q → TagFault xs n k at → ⊥
-  tag_apart n q k at a (tag_ended h) = let l = test_stands xs n (λ b. is_white b || (eqb b (code "/") || eqb b (code ">"))) refl a.after in omega arith
+  tag_apart n q k at a (tag_ended h) = let l = test_stands xs n (λ b. is_white b || (b == code "/" || b == code ">")) refl a.after in omega arith
   tag_apart n q k at a (tag_byte h e) = both_ways _ e a.after
   tag_apart n q k at a (slash_ended s h) =
       let e = a.slash s in
@@ -170,22 +170,22 @@ module _ (xs : List ℕ) where
       let g = a.closes in
       omega arith
 
-  not_slash : (b : ℕ) → (is_white b || eqb b (code ">")) ≡ true → eqb b (code "/") ≡ false
-  not_slash b h = ne_eqb b (code "/") (λ e. both_ways _ refl (sym (ap (λ x. is_white x || eqb x (code ">")) e) ∙ h))
+  not_slash : (b : ℕ) → (is_white b || b == code ">") ≡ true → (b == code "/") ≡ false
+  not_slash b h = ne_eqb b (code "/") (λ e. both_ways _ refl (sym (ap (λ x. is_white x || x == code ">") e) ∙ h))
 
   -- the fault of a tag, by the first bracket c
   abbrev tag_code : ℕ → ℕ → Found
   tag_code n c =
       cond (ltb n (length xs))
-      (cond (eqb (byte xs n) (code "/")) (cond (ltb (n + 1) (length xs)) (refuses 30 (n + 1)) (refuses 31 (length xs)))
-      (cond (is_white (byte xs n) || eqb (byte xs n) (code ">")) (cond (ltb c (length xs)) (refuses 30 c) (refuses 31 (length xs))) (refuses 30 n)))
+      (cond (byte xs n == code "/") (cond (ltb (n + 1) (length xs)) (refuses 30 (n + 1)) (refuses 31 (length xs)))
+      (cond (is_white (byte xs n) || byte xs n == code ">") (cond (ltb c (length xs)) (refuses 30 c) (refuses 31 (length xs))) (refuses 30 n)))
       (refuses 31 (length xs))
 
   tag_coded : (n c k at : ℕ) → Longest (λ i. plain (byte xs i)) (length xs) n c → TagFault xs n k at → refuses k at ≡ tag_code n c
   tag_coded n c k at m (tag_ended h) = rw (le-ltb n (length xs) h)
   tag_coded n c k at m (tag_byte h e) =
-      let o = or_parts (is_white (byte xs n)) (eqb (byte xs n) (code "/") || eqb (byte xs n) (code ">")) e in
-      let u = or_parts (eqb (byte xs n) (code "/")) (eqb (byte xs n) (code ">")) o.1 in
+      let o = or_parts (is_white (byte xs n)) (byte xs n == code "/" || byte xs n == code ">") e in
+      let u = or_parts (byte xs n == code "/") (byte xs n == code ">") o.1 in
       rw (lt-ltb n (length xs) h, u.0, or_from _ _ o.0 u.1)
   tag_coded n c k at m (slash_ended s h) =
       let l = standing xs n (code "/") s (omega arith) in
@@ -194,12 +194,12 @@ module _ (xs : List ℕ) where
       let l : n < length xs = omega arith in
       rw (lt-ltb n (length xs) l, eq-eqb (byte xs n) (code "/") s, lt-ltb (n + 1) (length xs) h)
   tag_coded n c k at m (unclosed b l) =
-      let w = test_stands xs n (λ b. is_white b || eqb b (code ">")) refl b in
+      let w = test_stands xs n (λ b. is_white b || b == code ">") refl b in
       let e = longest_same _ _ n c (length xs) m l in
       let f : length xs ≤ c = omega arith in
       rw (lt-ltb n (length xs) w, not_slash (byte xs n) b, b, le-ltb c (length xs) f)
   tag_coded n c k at m (bracket_opened d b l f) =
-      let w = test_stands xs n (λ b. is_white b || eqb b (code ">")) refl b in
+      let w = test_stands xs n (λ b. is_white b || b == code ">") refl b in
       let e = longest_same _ _ n c d m l in
       let g = standing xs d (code "<") f (omega arith) in
       let in_it : c < length xs = omega arith in
@@ -226,7 +226,7 @@ module _ (xs : List ℕ) where
       let ends = a.ends in
       let ends₁ = b.ends in
       let same_q : q ≡ r = omega arith in
-      let same_e : e ≡ f = a.slash ∙ ap (λ x. eqb (byte xs (x - 1)) (code "/")) c ∙ sym b.slash in
+      let same_e : e ≡ f = a.slash ∙ ap (λ x. byte xs (x - 1) == code "/") c ∙ sym b.slash in
       λ i. opens (g i) (same_q i) (same_e i)
 
   pub close_same : (p n q m r : ℕ) → IsEnd xs p n q → IsEnd xs p m r → q ≡ r
