@@ -19,11 +19,13 @@ use Rattle.xml.specs.declared.fault.ScanFault.{ScanFault}
 use Rattle.xml.specs.declared.fault.ScanFault.TheVariants.{Byte, End}
 use Rattle.xml.specs.declared.fault.XmlFault.TheVariants.{Scan, NotComment}
 
-pub found : (xs : List ℕ) (p : ℕ) (names : List (List ℕ)) (rooted : Bool) (k : Markup) (s : Found) → k ≡ markup (drop p xs) → Finds xs p names rooted k s → FindsAt xs p names rooted s
+pub found : (xs : List ℕ) (p : ℕ) (names : List (List ℕ)) (rooted : Bool) (k : Markup) (s : Found) →
+    k ≡ markup (drop p xs) → Finds xs p names rooted k s → FindsAt xs p names rooted s
 found xs p names rooted k s e d = subst (λ j. Finds xs p names rooted j s) e d
 
 -- what is found where the reader stops
-pub found_at : (xs : List ℕ) (p : ℕ) (names : List (List ℕ)) (rooted : Bool) (j k : Stop) (s : Found) → j ≡ k → stop_markup j ≡ markup (drop p xs) → Finds xs p names rooted (stop_markup k) s → FindsAt xs p names rooted s
+pub found_at : (xs : List ℕ) (p : ℕ) (names : List (List ℕ)) (rooted : Bool) (j k : Stop) (s : Found) →
+    j ≡ k → stop_markup j ≡ markup (drop p xs) → Finds xs p names rooted (stop_markup k) s → FindsAt xs p names rooted s
 found_at xs p names rooted j k s e f d = found xs p names rooted (stop_markup k) s (sym (ap stop_markup e) ∙ f) d
 
 -- what was found, by the markup

@@ -50,7 +50,9 @@ module _ (xs : List ℕ) (p : ℕ) (names : List (List ℕ)) (rooted : Bool) whe
 
 -- a fault by its number and place
 fault_of : ℕ → ℕ → XmlFault
-fault_of k p = cond (eqb k 30) (Scan (Byte p)) (cond (eqb k 31) (Scan (End p)) (cond (eqb k 32) (Scan (LongName p)) (cond (eqb k 33) (WrongName p) (cond (eqb k 34) (NotComment p) (Deep p)))))
+fault_of k p =
+    cond (eqb k 30) (Scan (Byte p)) (cond (eqb k 31) (Scan (End p)) (cond (eqb k 32) (Scan (LongName p))
+    (cond (eqb k 33) (WrongName p) (cond (eqb k 34) (NotComment p) (Deep p)))))
 
 fault_is : (f : XmlFault) → fault_of (number f) (place f) ≡ f
 unfolding fault_of
@@ -71,9 +73,11 @@ fault_same f g e =
 abbrev After : (xs : List ℕ) → ℕ → List (List ℕ) → Bool → List (Event (List ℕ)) → Option XmlFault → Found → Type 0
 After xs p names rooted es end finishes = (es ≡ []) × (end ≡ None)
 After xs p names rooted es end (skips q) = Reads xs q names rooted es end
-After xs p names rooted es end (opens n q false) = (ds : List (Event (List ℕ))) × (es ≡ Open (part xs (p + 1) n) ∷ ds) × Reads xs q (part xs (p + 1) n ∷ names) true ds end
+After xs p names rooted es end (opens n q false) =
+    (ds : List (Event (List ℕ))) × (es ≡ Open (part xs (p + 1) n) ∷ ds) × Reads xs q (part xs (p + 1) n ∷ names) true ds end
 After xs p names rooted es end (opens n q true) = (ds : List (Event (List ℕ))) × (es ≡ Open (part xs (p + 1) n) ∷ Close ∷ ds) × Reads xs q names true ds end
-After xs p names rooted es end (closes q) = (w : List ℕ) × (ns : List (List ℕ)) × (ds : List (Event (List ℕ))) × (names ≡ w ∷ ns) × (es ≡ Close ∷ ds) × Reads xs q ns rooted ds end
+After xs p names rooted es end (closes q) =
+    (w : List ℕ) × (ns : List (List ℕ)) × (ds : List (Event (List ℕ))) × (names ≡ w ∷ ns) × (es ≡ Close ∷ ds) × Reads xs q ns rooted ds end
 After xs p names rooted es end (refuses k at) = (es ≡ []) × ((f : XmlFault) × (end ≡ Some f) × (refuses (number f) (place f) ≡ refuses k at))
 
 inverse : (xs : List ℕ) (p : ℕ) (names : List (List ℕ)) (rooted : Bool) (es : List (Event (List ℕ))) (end : Option XmlFault) →

@@ -43,10 +43,12 @@ pub record Moves (es : List (Event (List ℕ))) (end : Option XmlFault) (ds : Li
   pub ending : to ≡ end
 
 module _ (xs : List ℕ) (p : ℕ) (names : List (List ℕ)) (rooted : Bool) where
-  pub means : (es : List (Event (List ℕ))) (end : Option XmlFault) → Reads xs p names rooted es end → ((reading xs p names rooted).events ≡ es) × ((reading xs p names rooted).ending ≡ end)
+  pub means : (es : List (Event (List ℕ))) (end : Option XmlFault) → Reads xs p names rooted es end →
+      ((reading xs p names rooted).events ≡ es) × ((reading xs p names rooted).ending ≡ end)
   means es end d = let m = reading xs p names rooted in once xs p names rooted m.events m.ending m.reads es end d
 
-  pub opens_moves : (n q : ℕ) (ns : List (List ℕ)) (l : Name) → ns ≡ part xs (p + 1) n ∷ names → l ≡ name_of (part xs (p + 1) n) → FindsAt xs p names rooted (opens n q false) →
+  pub opens_moves : (n q : ℕ) (ns : List (List ℕ)) (l : Name) → ns ≡ part xs (p + 1) n ∷ names → l ≡ name_of (part xs (p + 1) n) →
+      FindsAt xs p names rooted (opens n q false) →
       Moves (reading xs p names rooted).events (reading xs p names rooted).ending (reading xs q ns true).events (reading xs q ns true).ending (Open l)
   opens_moves n q ns l e f d =
       let t = reading xs q ns true in
@@ -97,7 +99,8 @@ pub push_names : (names : List (Bor (List ℕ))) (n : Bor (List ℕ)) → open_n
 push_names names n = ap reverse (map-append (λ m. m.now) names (n ∷ [])) ∙ reverse-append (map (λ m. m.now) names) (n.now ∷ [])
 
 -- what a pop leaves
-pub pop_names : (names rest : List (Bor (List ℕ))) (r : Option (Bor (List ℕ))) → names ≡ rest ++ option_to_list r → IsSome r → (w : List ℕ) × (open_names names ≡ w ∷ open_names rest)
+pub pop_names : (names rest : List (Bor (List ℕ))) (r : Option (Bor (List ℕ))) → names ≡ rest ++ option_to_list r → IsSome r →
+    (w : List ℕ) × (open_names names ≡ w ∷ open_names rest)
 pop_names names rest None e h = absurd (both_ways false refl h)
 pop_names names rest (Some n) e h = (n.now, ap open_names e ∙ push_names rest n)
 
@@ -114,11 +117,14 @@ last_innermost names n w b e f =
     subst (λ ns. Decides b (Innermost ns w)) (sym (ap open_names split ∙ push_names (take i names) n)) (λ t. sym (d.0 t), λ q. d.1 (sym q))
 
 -- two readers whose meanings are known
-pub moves_give : (s t : Tags) (x : Tag) → t.rooted ≡ true → Moves (tags_meaning s).events (tags_ending s) (tags_meaning t).events (tags_ending t) x → Gives s t (Some x)
+pub moves_give : (s t : Tags) (x : Tag) → t.rooted ≡ true → Moves (tags_meaning s).events (tags_ending s) (tags_meaning t).events (tags_ending t) x →
+    Gives s t (Some x)
 moves_give s t x b m = record { events = m.events; ending = m.ending; done = λ e. let z : ◌≡◌ {A = ℕ} 0 1 = cc in absurd (omega arith); rooted = b }
 
 pub done_gives : (s : Tags) → FindsAt s.input.now s.place (tags_names s) s.rooted finishes → Gives s s None
-done_gives s d = let m = means s.input.now s.place (tags_names s) s.rooted [] None (done d) in record { events = refl; ending = refl; done = λ _. (ap (map labelled) m.0, m.1); rooted = refl }
+done_gives s d =
+    let m = means s.input.now s.place (tags_names s) s.rooted [] None (done d) in
+    record { events = refl; ending = refl; done = λ _. (ap (map labelled) m.0, m.1); rooted = refl }
 
 pub fault_refuses : (s : Tags) (f : XmlFault) → FindsAt s.input.now s.place (tags_names s) s.rooted (refuses (number f) (place f)) → Refuses s s f
 fault_refuses s f d =
@@ -178,4 +184,5 @@ root_named xs p q n r e w c d b i =
     }
 
 pub begun_open : (s : Tags) → 0 < length (tags_names s) → s.rooted ≡ true
-begun_open s d = elim (cases_Bool s.rooted) [ inl r ↦ r | inr r ↦ let z : length (tags_names s) ≡ 0 = ap (λ ns. length (open_names ns)) (s.fresh r) in absurd (omega arith) ]
+begun_open s d =
+    elim (cases_Bool s.rooted) [ inl r ↦ r | inr r ↦ let z : length (tags_names s) ≡ 0 = ap (λ ns. length (open_names ns)) (s.fresh r) in absurd (omega arith) ]

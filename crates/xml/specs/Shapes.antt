@@ -3,7 +3,7 @@ use Rattle.std.specs.Prelude.{◌≡◌, ℕ, suc, ◌+◌, ◌-◌, ◌<◌, �
 use Rattle.std.proofs.Common.{sym, ◌∙◌, ap, subst, inl, inr, add-zero, arith, length-drop}
 use Prim.Native.Char.{code}
 use Rattle.std.proofs.lemmas.List.{get_or-drop}
-use Rattle.std.proofs.lemmas.Bool.{cases_lt, and_parts, not-false, eqb-true, or_cases}
+use Rattle.std.proofs.lemmas.Bool.{cases_lt, and_parts, not-false, eqb-true, or_cases, both_ways}
 use Rattle.labels.specs.Spelling.{byte, is_white, starts_name, Longest}
 use Rattle.xml.specs.Bytes.{plain, apart}
 use Rattle.xml.specs.Markup.{markup, behind, two_dashes, TagEnds}
@@ -108,7 +108,7 @@ slash_tag xs n e h f =
 
 -- white space or `>` right after the name
 no_slash : (b : ℕ) → (is_white b || b == code ">") ≡ true → ((is_white b || (b == code "/" || b == code ">")) ≡ true) × (b ≢ code "/")
-no_slash b h = (go (is_white b) (b == code "/") (b == code ">") h, λ e. let z : false ≡ true = (sym (ap (λ x. is_white x || x == code ">") e)) ∙ h in let y : ◌≡◌ {A = ℕ} 0 1 = cc in omega arith)
+no_slash b h = (go (is_white b) (b == code "/") (b == code ">") h, λ e. both_ways _ refl (sym (ap (λ x. is_white x || x == code ">") e) ∙ h))
   where
     go : (t₁ t₂ t₃ : Bool) → (t₁ || t₃) ≡ true → (t₁ || (t₂ || t₃)) ≡ true
     go true t₂ t₃ h = refl

@@ -38,16 +38,13 @@ module _ (xs : List ℕ) where
   some_name : (p : ℕ) → Outcome (Spelled xs p) (NameFault xs p)
   some_name p = go (cases_lt p (length xs))
     where
-      by_length : starts_name (byte xs p) ≡ true → (q : ℕ) → Longest (λ i. continues_name (byte xs i)) (length xs) p q → ((q ≤ p + name_limit) ⊎ (p + name_limit < q)) → Outcome (Spelled xs p) (NameFault xs p)
-      by_length s q l (inl h) = good q (record { begins = s; ends = l }, h)
-      by_length s q l (inr h) = bad (Scan (LongName p)) (long q (record { begins = s; ends = l }) h)
-
-      swap : {A B : Type 0} → (A ⊎ B) → B ⊎ A
-      swap (inl a) = inr a
-      swap (inr b) = inl b
+      by_length : starts_name (byte xs p) ≡ true → (q : ℕ) → Longest (λ i. continues_name (byte xs i)) (length xs) p q →
+          ((p + name_limit < q) ⊎ (q ≤ p + name_limit)) → Outcome (Spelled xs p) (NameFault xs p)
+      by_length s q l (inl h) = bad (Scan (LongName p)) (long q (record { begins = s; ends = l }) h)
+      by_length s q l (inr h) = good q (record { begins = s; ends = l }, h)
 
       first : p < length xs → ((starts_name (byte xs p) ≡ true) ⊎ (starts_name (byte xs p) ≡ false)) → Outcome (Spelled xs p) (NameFault xs p)
-      first h (inl s) = let l = longest (λ i. continues_name (byte xs i)) (length xs) p (omega arith) in by_length s l.0 l.1 (swap (cases_lt (p + name_limit) l.0))
+      first h (inl s) = let l = longest (λ i. continues_name (byte xs i)) (length xs) p (omega arith) in by_length s l.0 l.1 (cases_lt (p + name_limit) l.0)
       first h (inr s) = bad (Scan (Byte p)) (no_start h s)
 
       go : ((p < length xs) ⊎ (length xs ≤ p)) → Outcome (Spelled xs p) (NameFault xs p)
@@ -57,15 +54,16 @@ module _ (xs : List ℕ) where
   some_comment : (p : ℕ) → p + 4 ≤ length xs → Outcome (IsComment xs p) (CommentFault xs (p + 4))
   some_comment p h = go (longest (apart xs (code "-") (code "-")) (length xs) (p + 4) h)
     where
-      behind_it : (d : ℕ) → Longest (apart xs (code "-") (code "-")) (length xs) (p + 4) d → d + 2 < length xs → ((byte xs (d + 2) ≡ code ">") ⊎ (byte xs (d + 2) ≢ code ">")) →
-          Outcome (IsComment xs p) (CommentFault xs (p + 4))
+      behind_it : (d : ℕ) → Longest (apart xs (code "-") (code "-")) (length xs) (p + 4) d → d + 2 < length xs →
+          ((byte xs (d + 2) ≡ code ">") ⊎ (byte xs (d + 2) ≢ code ">")) → Outcome (IsComment xs p) (CommentFault xs (p + 4))
       behind_it d l w (inl e) =
           let b = pair_here xs (code "-") (code "-") d (l.stops (omega arith)) in
           let s : d + 1 + 1 ≡ d + 2 = omega arith in
           good (d + 3) (record { dashes = d; first = l; closes = (b.0, (b.1, (ap (byte xs) s ∙ e, tt))); ends = refl })
       behind_it d l w (inr ne) = bad (Scan (Byte (d + 2))) (comment_byte d l w ne)
 
-      fits : (d : ℕ) → Longest (apart xs (code "-") (code "-")) (length xs) (p + 4) d → ((d + 2 < length xs) ⊎ (length xs ≤ d + 2)) → Outcome (IsComment xs p) (CommentFault xs (p + 4))
+      fits : (d : ℕ) → Longest (apart xs (code "-") (code "-")) (length xs) (p + 4) d → ((d + 2 < length xs) ⊎ (length xs ≤ d + 2)) →
+          Outcome (IsComment xs p) (CommentFault xs (p + 4))
       fits d l (inl w) = behind_it d l w (cases_eq (byte xs (d + 2)) (code ">"))
       fits d l (inr w) = bad (Scan (End (length xs))) (comment_ended d l w)
 
@@ -75,7 +73,8 @@ module _ (xs : List ℕ) where
   some_instruction : (p : ℕ) → p + 2 ≤ length xs → Outcome (IsInstruction xs p) (InstructionFault xs p)
   some_instruction p h = go (longest (apart xs (code "?") (code ">")) (length xs) (p + 2) h)
     where
-      fits : (d : ℕ) → Longest (apart xs (code "?") (code ">")) (length xs) (p + 2) d → ((d < length xs) ⊎ (length xs ≤ d)) → Outcome (IsInstruction xs p) (InstructionFault xs p)
+      fits : (d : ℕ) → Longest (apart xs (code "?") (code ">")) (length xs) (p + 2) d → ((d < length xs) ⊎ (length xs ≤ d)) →
+          Outcome (IsInstruction xs p) (InstructionFault xs p)
       fits d l (inl w) =
           let b = pair_here xs (code "?") (code ">") d (l.stops w) in
           good (d + 2) (record { close = d; first = l; closes = (b.0, (b.1, tt)); ends = refl })
@@ -87,7 +86,8 @@ module _ (xs : List ℕ) where
   some_end : (n : ℕ) → n ≤ length xs → Outcome (EndEnds xs n) (EndFault xs n)
   some_end n h = go (longest (λ i. is_white (byte xs i)) (length xs) n h)
     where
-      behind_it : (c : ℕ) → Longest (λ i. is_white (byte xs i)) (length xs) n c → c < length xs → ((byte xs c ≡ code ">") ⊎ (byte xs c ≢ code ">")) → Outcome (EndEnds xs n) (EndFault xs n)
+      behind_it : (c : ℕ) → Longest (λ i. is_white (byte xs i)) (length xs) n c → c < length xs →
+          ((byte xs c ≡ code ">") ⊎ (byte xs c ≢ code ">")) → Outcome (EndEnds xs n) (EndFault xs n)
       behind_it c l w (inl e) = good c (record { space = l; closes = e })
       behind_it c l w (inr ne) = bad (Scan (Byte c)) (end_byte c l w ne)
 
@@ -101,7 +101,8 @@ module _ (xs : List ℕ) where
   some_bracket : (n : ℕ) → n < length xs → (is_white (byte xs n) || byte xs n == code ">") ≡ true → Outcome (TagEnds xs n) (TagFault xs n)
   some_bracket n h b = go (longest (λ i. plain (byte xs i)) (length xs) n (omega arith))
     where
-      which : (c : ℕ) → Longest (λ i. plain (byte xs i)) (length xs) n c → c < length xs → ((byte xs c ≡ code "<") ⊎ (byte xs c ≢ code "<")) → Outcome (TagEnds xs n) (TagFault xs n)
+      which : (c : ℕ) → Longest (λ i. plain (byte xs i)) (length xs) n c → c < length xs →
+          ((byte xs c ≡ code "<") ⊎ (byte xs c ≢ code "<")) → Outcome (TagEnds xs n) (TagFault xs n)
       which c l w (inl e) = bad (Scan (Byte c)) (bracket_opened c b l e)
       which c l w (inr ne) = good c (bracket_tag xs n c b l w ne)
 
@@ -123,7 +124,9 @@ module _ (xs : List ℕ) where
       slash s (inl w) = after_slash s w (cases_eq (byte xs (n + 1)) (code ">"))
       slash s (inr w) = bad (Scan (End (length xs))) (slash_ended s w)
 
-      other : n < length xs → (byte xs n ≢ code "/") → (((is_white (byte xs n) || byte xs n == code ">") ≡ true) ⊎ ((is_white (byte xs n) || byte xs n == code ">") ≡ false)) → Outcome (TagEnds xs n) (TagFault xs n)
+      other : n < length xs → (byte xs n ≢ code "/") →
+          (((is_white (byte xs n) || byte xs n == code ">") ≡ true) ⊎ ((is_white (byte xs n) || byte xs n == code ">") ≡ false)) →
+          Outcome (TagEnds xs n) (TagFault xs n)
       other w s (inl b) = some_bracket n w b
       other w s (inr b) =
           let h = or_parts (is_white (byte xs n)) (byte xs n == code ">") b in
@@ -202,7 +205,8 @@ module _ (xs : List ℕ) (p : ℕ) (names : List (List ℕ)) (rooted : Bool) whe
       named r (good n s) = tag r n s (some_tag xs n)
       named r (bad f d) = fault f (start_named r d)
 
-      go : ((names ≡ []) ⊎ (names ≢ [])) → ((rooted ≡ true) ⊎ (rooted ≡ false)) → ((length names < depth_limit) ⊎ (depth_limit ≤ length names)) → Next xs p names rooted StartTag
+      go : ((names ≡ []) ⊎ (names ≢ [])) → ((rooted ≡ true) ⊎ (rooted ≡ false)) → ((length names < depth_limit) ⊎ (depth_limit ≤ length names)) →
+          Next xs p names rooted StartTag
       go (inl e) (inl r) d = fault (Scan (Byte p)) (second (omega arith) e r)
       go (inl e) (inr r) (inl f) = named (record { alone = λ _. r; few = f }) (some_name xs (p + 1))
       go (inl e) (inr r) (inr d) = fault (Deep p) (deep (omega arith) d)
@@ -244,9 +248,11 @@ pub open_found : (xs : List ℕ) (p : ℕ) (names : List (List ℕ)) (rooted : B
 open_found xs p [] rooted k q (end_tag i d) = absurd i
 open_found xs p (n ∷ ns) rooted k q d = omega arith
 
-reading_end : (xs : List ℕ) (p : ℕ) (names : List (List ℕ)) (rooted : Bool) → markup (drop p xs) ≡ Nothing → Next xs p names rooted Nothing → Meaning xs p names rooted
+reading_end : (xs : List ℕ) (p : ℕ) (names : List (List ℕ)) (rooted : Bool) →
+    markup (drop p xs) ≡ Nothing → Next xs p names rooted Nothing → Meaning xs p names rooted
 reading_end xs p names rooted e (stop d) = record { events = []; ending = None; reads = done (subst (λ k. Finds xs p names rooted k finishes) (sym e) d) }
-reading_end xs p names rooted e (fault f d) = record { events = []; ending = Some f; reads = refused f (subst (λ k. Finds xs p names rooted k (refuses (number f) (place f))) (sym e) d) }
+reading_end xs p names rooted e (fault f d) =
+    record { events = []; ending = Some f; reads = refused f (subst (λ k. Finds xs p names rooted k (refuses (number f) (place f))) (sym e) d) }
 reading_end xs p names rooted e (skip q h d) = elim d [ ]
 reading_end xs p names rooted e (enter n q b h d) = elim d [ ]
 reading_end xs p names rooted e (leave q h d) = elim d [ ]
@@ -257,11 +263,13 @@ reading_by xs zero p names rooted h =
     reading_end xs p names rooted e (at_end xs p names rooted)
 reading_by xs (suc fuel) p names rooted h = go (λ q ns r l. reading_by xs fuel q ns r l) (at_kind xs p names rooted (markup (drop p xs)) refl)
   where
-    left : (q : ℕ) (ns : List (List ℕ)) → Finds xs p ns rooted (markup (drop p xs)) (closes q) → ((ms : List (List ℕ)) → Meaning xs q ms rooted) → Meaning xs p ns rooted
+    left : (q : ℕ) (ns : List (List ℕ)) → Finds xs p ns rooted (markup (drop p xs)) (closes q) →
+        ((ms : List (List ℕ)) → Meaning xs q ms rooted) → Meaning xs p ns rooted
     left q [] d m = let h = open_found xs p [] rooted _ q d in absurd (omega arith)
     left q (w ∷ ns) d m = let r = m ns in record { events = Close ∷ r.events; ending = r.ending; reads = closed d r.reads }
 
-    go : ((q : ℕ) (ns : List (List ℕ)) (r : Bool) → length xs ≤ q + fuel → Meaning xs q ns r) → Next xs p names rooted (markup (drop p xs)) → Meaning xs p names rooted
+    go : ((q : ℕ) (ns : List (List ℕ)) (r : Bool) → length xs ≤ q + fuel → Meaning xs q ns r) →
+        Next xs p names rooted (markup (drop p xs)) → Meaning xs p names rooted
     go on (stop d) = record { events = []; ending = None; reads = done d }
     go on (fault f d) = record { events = []; ending = Some f; reads = refused f d }
     go on (skip q l d) = let r = on q names rooted (omega arith) in record { events = r.events; ending = r.ending; reads = skipped d r.reads }

@@ -53,7 +53,9 @@ returns c =
     let xs = s.input.now in
     let q = c.in_ok-close.close in
     let n = c.in_ok-name.ensures in
-    let f = end_at xs s.place (tags_names s) s.rooted c.in_ok-name.name q c.requires (c.if-not-is_innermost.ensures.0 refl) n (c.in_ok-close.ensures n.0.ends.within) in
+    let t = c.in_ok-close.ensures n.0.ends.within in
+    let f = end_at xs s.place (tags_names s) s.rooted c.in_ok-name.name q c.requires (c.if-not-is_innermost.ensures.0 refl) n t in
     let deep : 0 < length (tags_names s) = open_found xs s.place (tags_names s) s.rooted _ (q + 1) f in
-    let names = pop_names s.opened.items c.pop.new.self.items c.pop.result c.pop.ensures.items (c.pop.ensures.variant.1 (omega (arith, length_names s.opened.items))) in
+    let popped = c.pop.ensures.variant.1 (omega (arith, length_names s.opened.items)) in
+    let names = pop_names s.opened.items c.pop.new.self.items c.pop.result c.pop.ensures.items popped in
     moves_give s _ Close (begun_open s deep) (closes_moves xs s.place (tags_names s) s.rooted (q + 1) names.0 _ names.1 f)
