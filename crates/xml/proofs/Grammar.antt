@@ -1,5 +1,5 @@
 -- A listing is done exactly when it is a document.
-use Rattle.std.proofs.Common.{◌≡◌, ℕ, suc, ◌+◌, ◌<◌, ◌≤◌, Bool, true, false, cond, eqb, List, [], ◌∷◌, ◌++◌, length, drop, None, Option, sym, refl, ap, ◌∙◌, subst, arith, length-drop}
+use Rattle.std.proofs.Common.{◌≡◌, ℕ, suc, ◌+◌, ◌<◌, ◌≤◌, Bool, true, false, List, [], ◌∷◌, ◌++◌, length, drop, None, Option, sym, refl, ap, ◌∙◌, subst, arith, length-drop}
 use Prim.Native.Char.{code}
 use Rattle.std.proofs.lemmas.List.{append_assoc, append-nil, drop_all}
 use Rattle.std.proofs.lemmas.Bool.{both_ways}
@@ -8,8 +8,8 @@ use Rattle.sources.specs.declared.event.Event.TheVariants.{Open, Close}
 use Rattle.sources.specs.Events.{MeansOnly}
 use Rattle.sources.specs.Forest.{Forest, events_of}
 use Rattle.sources.specs.Forest.Forest.{none, tree}
-use Rattle.labels.specs.Spelling.{part, starts_name}
-use Rattle.xml.specs.Markup.{markup, behind, two_dashes, IsStart, IsEnd}
+use Rattle.labels.specs.Spelling.{part}
+use Rattle.xml.specs.Markup.{markup, IsStart, IsEnd}
 use Rattle.xml.specs.Shapes.{reaches, markup_none}
 use Rattle.xml.specs.Reading.{depth_limit, Room, Finds, Reads}
 use Rattle.xml.specs.Reading.Found.{finishes, opens, closes}
@@ -20,7 +20,7 @@ use Rattle.xml.specs.Documents.Misc.{nothing as no_misc, space, comment as comme
 use Rattle.xml.specs.Documents.Production.{element, content}
 use Rattle.xml.specs.Documents.Derives.{empty_tag, tags, nothing, text, comment, instruction, child}
 use Rattle.xml.specs.declared.markup.Markup.{Markup}
-use Rattle.xml.specs.declared.markup.Markup.TheVariants.{Nothing, Text, EndTag, Comment, Declaration, Instruction, StartTag, Stray}
+use Rattle.xml.specs.declared.markup.Markup.TheVariants.{Nothing, Text, EndTag, Comment, Instruction, StartTag}
 use Rattle.xml.specs.declared.fault.XmlFault.{XmlFault}
 use Rattle.xml.proofs.Between.{found, Skipped, skips_from, skipped_misc}
 use Rattle.xml.proofs.Between.Skipped.{by_text, by_comment, by_instruction}

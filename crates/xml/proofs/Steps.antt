@@ -12,7 +12,6 @@ use Rattle.labels.specs.NameOf.{name_of}
 use Rattle.xml.specs.Faults.{number, place}
 use Rattle.xml.specs.Reading.{depth_limit, Finds, FindsAt, Reads, Room, Innermost}
 use Rattle.xml.specs.Reading.Finds.{start, end_tag}
-use Rattle.xml.specs.declared.markup.Markup.{Markup}
 use Rattle.xml.specs.Reading.Found.{finishes, opens, closes, refuses}
 use Rattle.xml.specs.Reading.Reads.{done, refused, skipped, opened, opened_empty, closed}
 use Rattle.xml.specs.Total.{reading}

@@ -1,6 +1,6 @@
 -- The scans of markup find one end or one fault, and not both.
 use Rattle.std.specs.Prelude.{◌≡◌, ℕ, zero, suc, ◌+◌, ◌-◌, ◌<◌, ◌≤◌, Bool, true, false, cond, ◌||◌, ◌⊎◌, List, length, ◌==◌, refl}
-use Rattle.std.proofs.Common.{eqb, ltb, sym, ap, ◌∙◌, subst, inl, inr, arith}
+use Rattle.std.proofs.Common.{ltb, sym, ap, ◌∙◌, subst, inl, inr, arith}
 use Prim.Native.Char.{code}
 use Rattle.std.proofs.lemmas.List.{get_or_past}
 use Rattle.std.proofs.lemmas.Bool.{cases_lt, cases_order, cases_Bool, ne_eqb, eq-eqb, lt-ltb, le-ltb, or_left, or_parts, or_from, both_ways}
