@@ -5,9 +5,13 @@ use Rattle.labels.specs.Spelling.{byte, is_white}
 use Rattle.xml.specs.Faults.{scan_number, scan_place}
 use Rattle.xml.specs.Markup.{markup, IsComment, IsInstruction, CommentFault, InstructionFault}
 use Rattle.xml.specs.Reading.{Found, Finds, FindsAt}
+use Rattle.xml.specs.Reading.Found.{skips}
 use Rattle.xml.specs.Reading.Finds.{text, comment, instruction}
 use Rattle.xml.specs.FaultLaws.{no_text, comment_fault, instruction_fault, declaration, cut, stray}
-use Rattle.xml.specs.Inner.{stop_markup, some, GoesBy, Refused}
+use Rattle.xml.specs.Inner.{stop_markup, some, GoesBy, Refused, Passes}
+use Rattle.xml.specs.Inner.Passes.{here, on}
+use Rattle.xml.specs.Documents.{Begins, Misc}
+use Rattle.xml.specs.Documents.Misc.{space, comment as comment_misc, instruction as instruction_misc}
 use Rattle.xml.specs.declared.markup.Stop.{Stop}
 use Rattle.xml.specs.declared.markup.Markup.{Markup}
 use Rattle.xml.specs.declared.markup.Markup.TheVariants.{Text, Comment, Declaration, Instruction, Cut, Stray}
@@ -15,12 +19,37 @@ use Rattle.xml.specs.declared.fault.ScanFault.{ScanFault}
 use Rattle.xml.specs.declared.fault.ScanFault.TheVariants.{Byte, End}
 use Rattle.xml.specs.declared.fault.XmlFault.TheVariants.{Scan, NotComment}
 
-pub found : (xs : List ℕ) (p : ℕ) (names : List (List ℕ)) (rooted : Bool) (k : Markup) (s : Found) → k ≡ markup (drop p xs) → Finds xs p names rooted k s → FindsAt xs p names rooted s
+pub found : (xs : List ℕ) (p : ℕ) (names : List (List ℕ)) (rooted : Bool) (k : Markup) (s : Found) →
+    k ≡ markup (drop p xs) → Finds xs p names rooted k s → FindsAt xs p names rooted s
 found xs p names rooted k s e d = subst (λ j. Finds xs p names rooted j s) e d
 
 -- what is found where the reader stops
-pub found_at : (xs : List ℕ) (p : ℕ) (names : List (List ℕ)) (rooted : Bool) (j k : Stop) (s : Found) → j ≡ k → stop_markup j ≡ markup (drop p xs) → Finds xs p names rooted (stop_markup k) s → FindsAt xs p names rooted s
+pub found_at : (xs : List ℕ) (p : ℕ) (names : List (List ℕ)) (rooted : Bool) (j k : Stop) (s : Found) →
+    j ≡ k → stop_markup j ≡ markup (drop p xs) → Finds xs p names rooted (stop_markup k) s → FindsAt xs p names rooted s
 found_at xs p names rooted j k s e f d = found xs p names rooted (stop_markup k) s (sym (ap stop_markup e) ∙ f) d
+
+-- what was found, by the markup
+pub data Skipped (xs : List ℕ) (p q : ℕ) (names : List (List ℕ)) : Type 0 where
+  by_text : Begins xs p Text → q ≡ p + 1 → (names ≡ [] → is_white (byte xs p) ≡ true) → Skipped xs p q names
+  by_comment : Begins xs p Comment → IsComment xs p q → Skipped xs p q names
+  by_instruction : Begins xs p Instruction → IsInstruction xs p q → Skipped xs p q names
+
+pub skips_from : (xs : List ℕ) (p : ℕ) (names : List (List ℕ)) (rooted : Bool) (k : Markup) (q : ℕ) →
+    Begins xs p k → Finds xs p names rooted k (skips q) → Skipped xs p q names
+skips_from xs p names rooted k q b (text h) = by_text b refl h
+skips_from xs p names rooted k q b (comment h) = by_comment b h
+skips_from xs p names rooted k q b (instruction h) = by_instruction b h
+
+-- where no element is open, it is Misc
+pub skipped_misc : (xs : List ℕ) (p q r : ℕ) → Skipped xs p q [] → Misc xs q r → Misc xs p r
+skipped_misc xs p q r (by_text b e h) m = space b (h refl) (subst (λ x. Misc xs x r) e m)
+skipped_misc xs p q r (by_comment b d) m = comment_misc b d m
+skipped_misc xs p q r (by_instruction b d) m = instruction_misc b d m
+
+pub passes_misc : (xs : List ℕ) (p q r : ℕ) → Passes xs false p q → Misc xs q r → Misc xs p r
+passes_misc xs p q r here m = m
+passes_misc xs p q r (on {q = o} go by) m =
+    passes_misc xs p o r go (skipped_misc xs o q r (skips_from xs o [] false _ q refl (by [] false refl)) m)
 
 pub none_is : (names : List (List ℕ)) → some names ≡ false → names ≡ []
 none_is [] e = refl

@@ -1,5 +1,6 @@
 -- A listing is done exactly when it is a document.
-use Rattle.std.proofs.Common.{◌≡◌, ℕ, suc, ◌+◌, ◌<◌, ◌≤◌, Bool, true, false, cond, eqb, List, [], ◌∷◌, ◌++◌, length, drop, None, Option, sym, refl, ap, ◌∙◌, subst, arith, length-drop}
+use Rattle.std.proofs.Common.{◌≡◌, ℕ, suc, ◌+◌, ◌<◌, ◌≤◌, Bool, true, false, List, [], ◌∷◌, ◌++◌, length, drop, None, Option, sym, refl, ap, ◌∙◌, subst, arith, length-drop}
+use Prim.Native.Char.{code}
 use Rattle.std.proofs.lemmas.List.{append_assoc, append-nil, drop_all}
 use Rattle.std.proofs.lemmas.Bool.{both_ways}
 use Rattle.sources.specs.declared.event.Event.{Event}
@@ -9,11 +10,11 @@ use Rattle.sources.specs.Forest.{Forest, events_of, nodes_of}
 use Rattle.sources.specs.Forest.Forest.{none, tree}
 use Rattle.sources.specs.Nodes.{nodes}
 use Rattle.sources.proofs.ForestNodes.{forest_nodes}
-use Rattle.labels.specs.Spelling.{byte, part, is_white, starts_name}
-use Rattle.xml.specs.Markup.{markup, behind, two_dashes, IsComment, IsInstruction, IsStart, IsEnd}
-use Rattle.xml.specs.Shapes.{reaches}
+use Rattle.labels.specs.Spelling.{part}
+use Rattle.xml.specs.Markup.{markup, IsStart, IsEnd}
+use Rattle.xml.specs.Shapes.{reaches, markup_none}
 use Rattle.xml.specs.Reading.{depth_limit, Room, Finds, Reads}
-use Rattle.xml.specs.Reading.Found.{finishes, skips, opens, closes}
+use Rattle.xml.specs.Reading.Found.{finishes, opens, closes}
 use Rattle.xml.specs.Reading.Finds.{finish, text as text_found, comment as comment_found, instruction as instruction_found, start as start_found, end_tag as end_found}
 use Rattle.xml.specs.Reading.Reads.{done, refused, skipped, opened, opened_empty, closed}
 use Rattle.xml.specs.Documents.{Begins, Misc, Production, Derives, DocumentFrom, Document, DoneAsDocument}
@@ -21,10 +22,11 @@ use Rattle.xml.specs.Documents.Misc.{nothing as no_misc, space, comment as comme
 use Rattle.xml.specs.Documents.Production.{element, content}
 use Rattle.xml.specs.Documents.Derives.{empty_tag, tags, nothing, text, comment, instruction, child}
 use Rattle.xml.specs.declared.markup.Markup.{Markup}
-use Rattle.xml.specs.declared.markup.Markup.TheVariants.{Nothing, Text, EndTag, Comment, Declaration, Instruction, StartTag, Stray}
+use Rattle.xml.specs.declared.markup.Markup.TheVariants.{Nothing, Text, EndTag, Comment, Instruction, StartTag}
 use Rattle.xml.specs.declared.fault.XmlFault.{XmlFault}
-use Rattle.xml.proofs.Between.{found}
-use Rattle.xml.specs.ScanLaws.{standing}
+use Rattle.xml.proofs.Between.{found, Skipped, skips_from, skipped_misc}
+use Rattle.xml.proofs.Between.Skipped.{by_text, by_comment, by_instruction}
+use Rattle.xml.specs.ScanLaws.{standing, comment_within, instruction_within}
 use Rattle.xml.proofs.Once.{once}
 
 -- the events of a tree and of those behind it
@@ -78,49 +80,17 @@ module _ (xs : List ℕ) where
       (is_reads content k r q others c names true ds end l (f.0, refl) d))
 
 -- from the reading to the grammar
-behind_some : (bs : List ℕ) → behind bs ≡ Nothing → ⊥
-behind_some [] e = let z : ◌≡◌ {A = ℕ} 0 1 = cc in omega arith
-behind_some (b ∷ bs) e = go (eqb b 47) (eqb b 33) (two_dashes bs) (eqb b 63) (starts_name b) e
-  where
-    go : (t₁ t₂ t₃ t₄ t₅ : Bool) → cond t₁ EndTag (cond t₂ (cond t₃ Comment Declaration) (cond t₄ Instruction (cond t₅ StartTag Stray))) ≡ Nothing → ⊥
-    go true t₂ t₃ t₄ t₅ e = let z : ◌≡◌ {A = ℕ} 0 1 = cc in omega arith
-    go false true true t₄ t₅ e = let z : ◌≡◌ {A = ℕ} 0 1 = cc in omega arith
-    go false true false t₄ t₅ e = let z : ◌≡◌ {A = ℕ} 0 1 = cc in omega arith
-    go false false t₃ true t₅ e = let z : ◌≡◌ {A = ℕ} 0 1 = cc in omega arith
-    go false false t₃ false true e = let z : ◌≡◌ {A = ℕ} 0 1 = cc in omega arith
-    go false false t₃ false false e = let z : ◌≡◌ {A = ℕ} 0 1 = cc in omega arith
-
-markup_none : (bs : List ℕ) → markup bs ≡ Nothing → length bs ≡ 0
-markup_none [] e = refl
-markup_none (b ∷ bs) e = absurd (go (eqb b 60) e)
-  where
-    go : (t : Bool) → cond t (behind bs) Text ≡ Nothing → ⊥
-    go true e = behind_some bs e
-    go false e = let z : ◌≡◌ {A = ℕ} 0 1 = cc in omega arith
-
--- what was found, by the markup
-data Skipped (xs : List ℕ) (p q : ℕ) (names : List (List ℕ)) : Type 0 where
-  by_text : Begins xs p Text → q ≡ p + 1 → (names ≡ [] → is_white (byte xs p) ≡ true) → Skipped xs p q names
-  by_comment : Begins xs p Comment → IsComment xs p q → Skipped xs p q names
-  by_instruction : Begins xs p Instruction → IsInstruction xs p q → Skipped xs p q names
-
-skips_from : (xs : List ℕ) (p : ℕ) (names : List (List ℕ)) (rooted : Bool) (k : Markup) (q : ℕ) →
-    Begins xs p k → Finds xs p names rooted k (skips q) → Skipped xs p q names
-skips_from xs p names rooted k q b (text_found h) = by_text b refl h
-skips_from xs p names rooted k q b (comment_found h) = by_comment b h
-skips_from xs p names rooted k q b (instruction_found h) = by_instruction b h
-
 skips_within : (xs : List ℕ) (p q : ℕ) (names : List (List ℕ)) → Skipped xs p q names → q ≤ length xs
 skips_within xs p q names (by_text b e h) = omega (arith, reaches xs p Text b (omega arith))
-skips_within xs p q names (by_comment b d) = let e = d.ends in omega (arith, standing xs (d.dashes + 1 + 1) 62 d.closes.1.1.0 (omega arith))
-skips_within xs p q names (by_instruction b d) = let e = d.ends in omega (arith, standing xs (d.close + 1) 62 d.closes.1.0 (omega arith))
+skips_within xs p q names (by_comment b d) = comment_within xs p q d
+skips_within xs p q names (by_instruction b d) = instruction_within xs p q d
 
 opens_from : (xs : List ℕ) (p : ℕ) (names : List (List ℕ)) (rooted : Bool) (k : Markup) (n q : ℕ) (e : Bool) →
     Begins xs p k → Finds xs p names rooted k (opens n q e) → Begins xs p StartTag × Room names rooted × IsStart xs p n q e
 opens_from xs p names rooted k n q e b (start_found r i) = (b, r, i)
 
 start_within : (xs : List ℕ) (p n q : ℕ) (e : Bool) → IsStart xs p n q e → q ≤ length xs
-start_within xs p n q e i = let g = i.ends in omega (arith, standing xs i.close 62 i.tag.closes (omega arith))
+start_within xs p n q e i = let g = i.ends in omega (arith, standing xs i.close (code ">") i.tag.closes (omega arith))
 
 closes_from : (xs : List ℕ) (p : ℕ) (w : List ℕ) (names : List (List ℕ)) (rooted : Bool) (k : Markup) (q : ℕ) →
     Begins xs p k → Finds xs p (w ∷ names) rooted k (closes q) → Begins xs p EndTag × ((n : ℕ) × (part xs (p + 2) n ≡ w) × IsEnd xs p n q)
@@ -140,9 +110,7 @@ Tails xs (w ∷ ns) p es =
 
 tails_skip : (xs : List ℕ) (p q : ℕ) (names : List (List ℕ)) (es : List (Event (List ℕ))) →
     Skipped xs p q names → Tails xs names q es → Tails xs names p es
-tails_skip xs p q [] es (by_text b e h) t = (t.0, space b (h refl) (subst (λ x. Misc xs x (length xs)) e t.1))
-tails_skip xs p q [] es (by_comment b d) t = (t.0, comment_misc b d t.1)
-tails_skip xs p q [] es (by_instruction b d) t = (t.0, instruction_misc b d t.1)
+tails_skip xs p q [] es s t = (t.0, skipped_misc xs p q (length xs) s t.1)
 tails_skip xs p q (w ∷ ns) es (by_text b e h) (s, m, r, trees, cs, c, g, i, same, on, eq) =
     (s, m, r, trees, cs, text b (subst (λ x. Derives xs content (suc (length ns)) x s trees) e c), g, i, same, on, eq)
 tails_skip xs p q (w ∷ ns) es (by_comment b d) (s, m, r, trees, cs, c, g, i, same, on, eq) = (s, m, r, trees, cs, comment b d c, g, i, same, on, eq)
@@ -195,35 +163,31 @@ tails xs p names rooted es end (closed {q = q} {w = w} {names = ns} {es = ds} f 
     let s = closes_from xs p w ns rooted _ q refl f in
     let i = s.1.2 in
     let g = i.ends in
-    let l = standing xs i.close 62 i.tag.closes (omega arith) in
+    let l = standing xs i.close (code ">") i.tag.closes (omega arith) in
     let t = tails xs q ns rooted ds end d e r (omega arith) in
     (p, s.1.0, q, none, ds, nothing, s.0, i, s.1.1, t, refl)
 
 -- a document with these events
-abbrev Told : List ℕ → ℕ → List (Event (List ℕ)) → Type 0
-Told xs p es = (trees : Forest (List ℕ)) × DocumentFrom xs p trees × (es ≡ events_of trees)
+abbrev DocumentWith : List ℕ → ℕ → List (Event (List ℕ)) → Type 0
+DocumentWith xs p es = (trees : Forest (List ℕ)) × DocumentFrom xs p trees × (es ≡ events_of trees)
 
-told_skip : (xs : List ℕ) (p q : ℕ) (es : List (Event (List ℕ))) → Skipped xs p q [] → Told xs q es → Told xs p es
-told_skip xs p q es (by_text b e h) (trees, d, eq) =
-    (trees, record { start = d.start; stop = d.stop; before = space b (h refl) (subst (λ x. Misc xs x d.start) e d.before); root = d.root; behind = d.behind }, eq)
-told_skip xs p q es (by_comment b i) (trees, d, eq) =
-    (trees, record { start = d.start; stop = d.stop; before = comment_misc b i d.before; root = d.root; behind = d.behind }, eq)
-told_skip xs p q es (by_instruction b i) (trees, d, eq) =
-    (trees, record { start = d.start; stop = d.stop; before = instruction_misc b i d.before; root = d.root; behind = d.behind }, eq)
+document_skip : (xs : List ℕ) (p q : ℕ) (es : List (Event (List ℕ))) → Skipped xs p q [] → DocumentWith xs q es → DocumentWith xs p es
+document_skip xs p q es s (trees, d, eq) =
+    (trees, record { start = d.start; stop = d.stop; before = skipped_misc xs p q d.start s d.before; root = d.root; behind = d.behind }, eq)
 
 told : (xs : List ℕ) (p : ℕ) (names : List (List ℕ)) (rooted : Bool) (es : List (Event (List ℕ))) (end : Option XmlFault) →
-    Reads xs p names rooted es end → end ≡ None → names ≡ [] → rooted ≡ false → p ≤ length xs → Told xs p es
+    Reads xs p names rooted es end → end ≡ None → names ≡ [] → rooted ≡ false → p ≤ length xs → DocumentWith xs p es
 told xs p names rooted es end (done f) e nil r h = absurd (both_ways _ r (finish_from xs p names rooted _ refl f).2)
 told xs p names rooted es end (refused g f) e nil r h = let z : ◌≡◌ {A = ℕ} 0 1 = cc in absurd (omega arith)
 told xs p names rooted es end (skipped {q = q} f d) e nil r h =
     let s = skips_from xs p names rooted _ q refl f in
-    told_skip xs p q es (subst (Skipped xs p q) nil s) (told xs q names rooted es end d e nil r (skips_within xs p q names s))
+    document_skip xs p q es (subst (Skipped xs p q) nil s) (told xs q names rooted es end d e nil r (skips_within xs p q names s))
 told xs p names rooted es end (opened {n = n} {q = q} {es = ds} f d) e nil r h =
     let s = opens_from xs p names rooted _ n q false refl f in
     let w = part xs (p + 1) n in
     root_open (subst (λ x. Tails xs (w ∷ x) q ds) nil (tails xs q (w ∷ names) true ds end d e refl (start_within xs p n q false s.2))) s.0 s.2
   where
-    root_open : Tails xs (part xs (p + 1) n ∷ []) q ds → Begins xs p StartTag → IsStart xs p n q false → Told xs p (Open (part xs (p + 1) n) ∷ ds)
+    root_open : Tails xs (part xs (p + 1) n ∷ []) q ds → Begins xs p StartTag → IsStart xs p n q false → DocumentWith xs p (Open (part xs (p + 1) n) ∷ ds)
     root_open (s, m, t, inside, cs, c, g, i, same, on, eq) b j =
         let w = part xs (p + 1) n in
         let all : Open w ∷ ds ≡ events_of (tree w inside none) = ap (λ x. Open w ∷ x) (eq ∙ ap (λ x. events_of inside ++ (Close ∷ x)) on.0) in

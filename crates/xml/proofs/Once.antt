@@ -20,27 +20,27 @@ use Rattle.xml.specs.FaultLaws.{no_second, no_deep, before_both}
 
 module _ (xs : List ℕ) (p : ℕ) (names : List (List ℕ)) (rooted : Bool) where
   -- where something is wrong, the first fault is found
-  told : (k : Markup) (s : Found) (n at : ℕ) → Finds xs p names rooted k s → Wrong xs p names rooted k n at →
+  first_found : (k : Markup) (s : Found) (n at : ℕ) → Finds xs p names rooted k s → Wrong xs p names rooted k n at →
       ((j to : ℕ) → Wrong xs p names rooted k j to → ComesBefore n at j to) → s ≡ refuses n at
-  told k s n at (finish a b) (unfinished c) l = absurd (c a b)
-  told k s n at (text a) (bare_text c d) l = absurd (both_ways _ d (a c))
-  told k s n at (comment {q = q} a) (bad_comment c) l = absurd (comment_apart xs p q n at a c)
-  told k s n at (instruction {q = q} a) (bad_instruction c) l = absurd (instruction_apart xs p q n at a c)
-  told k s n at (start r a) (second_root e f) l = absurd (no_second names rooted r e f)
-  told k s n at (start r a) (too_deep d) l = absurd (no_deep names rooted r d)
-  told k s n at (start {n = m} r a) (start_name d) l = absurd (name_apart xs (p + 1) m n at a.name d)
-  told k s n at (start {n = m} r a) (start_rest {n = o} b d) l =
+  first_found k s n at (finish a b) (unfinished c) l = absurd (c a b)
+  first_found k s n at (text a) (bare_text c d) l = absurd (both_ways _ d (a c))
+  first_found k s n at (comment {q = q} a) (bad_comment c) l = absurd (comment_apart xs p q n at a c)
+  first_found k s n at (instruction {q = q} a) (bad_instruction c) l = absurd (instruction_apart xs p q n at a c)
+  first_found k s n at (start r a) (second_root e f) l = absurd (no_second names rooted r e f)
+  first_found k s n at (start r a) (too_deep d) l = absurd (no_deep names rooted r d)
+  first_found k s n at (start {n = m} r a) (start_name d) l = absurd (name_apart xs (p + 1) m n at a.name d)
+  first_found k s n at (start {n = m} r a) (start_rest {n = o} b d) l =
       absurd (tag_apart xs o a.close n at (subst (λ x. TagEnds xs x a.close) (name_same xs (p + 1) m o a.name.0 b) a.tag) d)
-  told k s n at (end_tag {n = m} i a) (end_name d) l = absurd (name_apart xs (p + 2) m n at a.name d)
-  told k s n at (end_tag {n = m} i a) (other_name {n = o} b ne) l =
+  first_found k s n at (end_tag {n = m} i a) (end_name d) l = absurd (name_apart xs (p + 2) m n at a.name d)
+  first_found k s n at (end_tag {n = m} i a) (other_name {n = o} b ne) l =
       absurd (ne (subst (λ x. Innermost names (part xs (p + 2) x)) (name_same xs (p + 2) m o a.name.0 b) i))
-  told k s n at (end_tag {n = m} i a) (end_rest {n = o} b d) l =
+  first_found k s n at (end_tag {n = m} i a) (end_rest {n = o} b d) l =
       absurd (end_apart xs o a.close n at (subst (λ x. EndEnds xs x a.close) (name_same xs (p + 2) m o a.name.0 b) a.tag) d)
-  told k s n at (faulty v m) w l = before_both _ _ n at (m n at w) (l _ _ v)
+  first_found k s n at (faulty v m) w l = before_both _ _ n at (m n at w) (l _ _ v)
 
   finds_same : (k : Markup) (s t : Found) → Finds xs p names rooted k s → Finds xs p names rooted k t → s ≡ t
-  finds_same k s t (faulty w l) d = sym (told k t _ _ d w l)
-  finds_same k s t d (faulty w l) = told k s _ _ d w l
+  finds_same k s t (faulty w l) d = sym (first_found k t _ _ d w l)
+  finds_same k s t d (faulty w l) = first_found k s _ _ d w l
   finds_same k s t (finish a b) (finish c d) = refl
   finds_same k s t (text a) (text c) = refl
   finds_same k s t (comment a) (comment c) = ap skips (comment_same xs p _ _ a c)
@@ -50,7 +50,9 @@ module _ (xs : List ℕ) (p : ℕ) (names : List (List ℕ)) (rooted : Bool) whe
 
 -- a fault by its number and place
 fault_of : ℕ → ℕ → XmlFault
-fault_of k p = cond (eqb k 30) (Scan (Byte p)) (cond (eqb k 31) (Scan (End p)) (cond (eqb k 32) (Scan (LongName p)) (cond (eqb k 33) (WrongName p) (cond (eqb k 34) (NotComment p) (Deep p)))))
+fault_of k p =
+    cond (eqb k 30) (Scan (Byte p)) (cond (eqb k 31) (Scan (End p)) (cond (eqb k 32) (Scan (LongName p))
+    (cond (eqb k 33) (WrongName p) (cond (eqb k 34) (NotComment p) (Deep p)))))
 
 fault_is : (f : XmlFault) → fault_of (number f) (place f) ≡ f
 unfolding fault_of
@@ -71,9 +73,11 @@ fault_same f g e =
 abbrev After : (xs : List ℕ) → ℕ → List (List ℕ) → Bool → List (Event (List ℕ)) → Option XmlFault → Found → Type 0
 After xs p names rooted es end finishes = (es ≡ []) × (end ≡ None)
 After xs p names rooted es end (skips q) = Reads xs q names rooted es end
-After xs p names rooted es end (opens n q false) = (ds : List (Event (List ℕ))) × (es ≡ Open (part xs (p + 1) n) ∷ ds) × Reads xs q (part xs (p + 1) n ∷ names) true ds end
+After xs p names rooted es end (opens n q false) =
+    (ds : List (Event (List ℕ))) × (es ≡ Open (part xs (p + 1) n) ∷ ds) × Reads xs q (part xs (p + 1) n ∷ names) true ds end
 After xs p names rooted es end (opens n q true) = (ds : List (Event (List ℕ))) × (es ≡ Open (part xs (p + 1) n) ∷ Close ∷ ds) × Reads xs q names true ds end
-After xs p names rooted es end (closes q) = (w : List ℕ) × (ns : List (List ℕ)) × (ds : List (Event (List ℕ))) × (names ≡ w ∷ ns) × (es ≡ Close ∷ ds) × Reads xs q ns rooted ds end
+After xs p names rooted es end (closes q) =
+    (w : List ℕ) × (ns : List (List ℕ)) × (ds : List (Event (List ℕ))) × (names ≡ w ∷ ns) × (es ≡ Close ∷ ds) × Reads xs q ns rooted ds end
 After xs p names rooted es end (refuses k at) = (es ≡ []) × ((f : XmlFault) × (end ≡ Some f) × (refuses (number f) (place f) ≡ refuses k at))
 
 inverse : (xs : List ℕ) (p : ℕ) (names : List (List ℕ)) (rooted : Bool) (es : List (Event (List ℕ))) (end : Option XmlFault) →

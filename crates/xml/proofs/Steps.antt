@@ -12,7 +12,6 @@ use Rattle.labels.specs.NameOf.{name_of}
 use Rattle.xml.specs.Faults.{number, place}
 use Rattle.xml.specs.Reading.{depth_limit, Finds, FindsAt, Reads, Room, Innermost}
 use Rattle.xml.specs.Reading.Finds.{start, end_tag}
-use Rattle.xml.specs.declared.markup.Markup.{Markup}
 use Rattle.xml.specs.Reading.Found.{finishes, opens, closes, refuses}
 use Rattle.xml.specs.Reading.Reads.{done, refused, skipped, opened, opened_empty, closed}
 use Rattle.xml.specs.Total.{reading}
@@ -31,9 +30,11 @@ use Rattle.labels.specs.declared.name.Name.{Name}
 use Rattle.xml.specs.declared.fault.XmlFault.{XmlFault}
 use Rattle.xml.specs.declared.scan.Opening.{Opening as Start}
 use Rattle.xml.specs.declared.markup.Markup.TheVariants.{StartTag, EndTag}
-use Rattle.xml.specs.Markup.{markup, EndEnds}
+use Rattle.xml.specs.Markup.{markup, EndEnds, IsStart}
+use Rattle.xml.specs.Documents.{Begins}
+use Rattle.xml.specs.Documents.Misc.{nothing as no_misc}
 use Rattle.xml.proofs.Once.{once}
-use Rattle.xml.proofs.Between.{found}
+use Rattle.xml.proofs.Between.{found, passes_misc}
 
 -- what a tag leaves of a meaning
 pub record Moves (es : List (Event (List ℕ))) (end : Option XmlFault) (ds : List (Event (List ℕ))) (to : Option XmlFault) (t : Tag) : Type 0 where
@@ -41,10 +42,12 @@ pub record Moves (es : List (Event (List ℕ))) (end : Option XmlFault) (ds : Li
   pub ending : to ≡ end
 
 module _ (xs : List ℕ) (p : ℕ) (names : List (List ℕ)) (rooted : Bool) where
-  pub means : (es : List (Event (List ℕ))) (end : Option XmlFault) → Reads xs p names rooted es end → ((reading xs p names rooted).events ≡ es) × ((reading xs p names rooted).ending ≡ end)
+  pub means : (es : List (Event (List ℕ))) (end : Option XmlFault) → Reads xs p names rooted es end →
+      ((reading xs p names rooted).events ≡ es) × ((reading xs p names rooted).ending ≡ end)
   means es end d = let m = reading xs p names rooted in once xs p names rooted m.events m.ending m.reads es end d
 
-  pub opens_moves : (n q : ℕ) (ns : List (List ℕ)) (l : Name) → ns ≡ part xs (p + 1) n ∷ names → l ≡ name_of (part xs (p + 1) n) → FindsAt xs p names rooted (opens n q false) →
+  pub opens_moves : (n q : ℕ) (ns : List (List ℕ)) (l : Name) → ns ≡ part xs (p + 1) n ∷ names → l ≡ name_of (part xs (p + 1) n) →
+      FindsAt xs p names rooted (opens n q false) →
       Moves (reading xs p names rooted).events (reading xs p names rooted).ending (reading xs q ns true).events (reading xs q ns true).ending (Open l)
   opens_moves n q ns l e f d =
       let t = reading xs q ns true in
@@ -66,17 +69,23 @@ module _ (xs : List ℕ) (p : ℕ) (names : List (List ℕ)) (rooted : Bool) whe
       let m = means (Closing ∷ t.events) t.ending (subst (λ k. Reads xs p k rooted (Closing ∷ t.events) t.ending) (sym e) c) in
       record { events = rw m.0; ending = sym m.1 }
 
-passed : (xs : List ℕ) (inside : Bool) (p q : ℕ) (names : List (List ℕ)) (rooted : Bool) (es : List (Event (List ℕ))) (end : Option XmlFault) →
+  -- an element's opening is the first event
+  pub opens_first : (n q : ℕ) (e : Bool) → FindsAt xs p names rooted (opens n q e) →
+      (others : List (Event (List ℕ))) × ((reading xs p names rooted).events ≡ Opening (part xs (p + 1) n) ∷ others)
+  opens_first n q false d = let t = reading xs q (part xs (p + 1) n ∷ names) true in (t.events, (means _ _ (opened d t.reads)).0)
+  opens_first n q true d = let t = reading xs q names true in (Closing ∷ t.events, (means _ _ (opened_empty d t.reads)).0)
+
+passes_read : (xs : List ℕ) (inside : Bool) (p q : ℕ) (names : List (List ℕ)) (rooted : Bool) (es : List (Event (List ℕ))) (end : Option XmlFault) →
     Passes xs inside p q → some names ≡ inside → Reads xs q names rooted es end → Reads xs p names rooted es end
-passed xs inside p q names rooted es end here i d = d
-passed xs inside p q names rooted es end (on {q = m} go by) i d = passed xs inside p m names rooted es end go i (skipped (by names rooted i) d)
+passes_read xs inside p q names rooted es end here i d = d
+passes_read xs inside p q names rooted es end (on {q = m} go by) i d = passes_read xs inside p m names rooted es end go i (skipped (by names rooted i) d)
 
 -- what goes by leaves the meaning
 pub passes_same : (xs : List ℕ) (inside : Bool) (p q : ℕ) (names : List (List ℕ)) (rooted : Bool) → Passes xs inside p q → some names ≡ inside →
     ((reading xs p names rooted).events ≡ (reading xs q names rooted).events) × ((reading xs p names rooted).ending ≡ (reading xs q names rooted).ending)
 passes_same xs inside p q names rooted d i =
     let t = reading xs q names rooted in
-    means xs p names rooted t.events t.ending (passed xs inside p q names rooted t.events t.ending d i t.reads)
+    means xs p names rooted t.events t.ending (passes_read xs inside p q names rooted t.events t.ending d i t.reads)
 
 pub none_open : (names : List (Bor (List ℕ))) → length names ≡ 0 → open_names names ≡ []
 none_open [] h = refl
@@ -89,7 +98,8 @@ pub push_names : (names : List (Bor (List ℕ))) (n : Bor (List ℕ)) → open_n
 push_names names n = ap reverse (map-append (λ m. m.now) names (n ∷ [])) ∙ reverse-append (map (λ m. m.now) names) (n.now ∷ [])
 
 -- what a pop leaves
-pub pop_names : (names rest : List (Bor (List ℕ))) (r : Option (Bor (List ℕ))) → names ≡ rest ++ option_to_list r → IsSome r → (w : List ℕ) × (open_names names ≡ w ∷ open_names rest)
+pub pop_names : (names rest : List (Bor (List ℕ))) (r : Option (Bor (List ℕ))) → names ≡ rest ++ option_to_list r → IsSome r →
+    (w : List ℕ) × (open_names names ≡ w ∷ open_names rest)
 pop_names names rest None e h = absurd (both_ways false refl h)
 pop_names names rest (Some n) e h = (n.now, ap open_names e ∙ push_names rest n)
 
@@ -106,11 +116,14 @@ last_innermost names n w b e f =
     subst (λ ns. Decides b (Innermost ns w)) (sym (ap open_names split ∙ push_names (take i names) n)) (λ t. sym (d.0 t), λ q. d.1 (sym q))
 
 -- two readers whose meanings are known
-pub moves_give : (s t : Tags) (x : Tag) → t.rooted ≡ true → Moves (tags_meaning s).events (tags_ending s) (tags_meaning t).events (tags_ending t) x → Gives s t (Some x)
+pub moves_give : (s t : Tags) (x : Tag) → t.rooted ≡ true → Moves (tags_meaning s).events (tags_ending s) (tags_meaning t).events (tags_ending t) x →
+    Gives s t (Some x)
 moves_give s t x b m = record { events = m.events; ending = m.ending; done = λ e. let z : ◌≡◌ {A = ℕ} 0 1 = cc in absurd (omega arith); rooted = b }
 
 pub done_gives : (s : Tags) → FindsAt s.input.now s.place (tags_names s) s.rooted finishes → Gives s s None
-done_gives s d = let m = means s.input.now s.place (tags_names s) s.rooted [] None (done d) in record { events = refl; ending = refl; done = λ _. (ap (map labelled) m.0, m.1); rooted = refl }
+done_gives s d =
+    let m = means s.input.now s.place (tags_names s) s.rooted [] None (done d) in
+    record { events = refl; ending = refl; done = λ _. (ap (map labelled) m.0, m.1); rooted = refl }
 
 pub fault_refuses : (s : Tags) (f : XmlFault) → FindsAt s.input.now s.place (tags_names s) s.rooted (refuses (number f) (place f)) → Refuses s s f
 fault_refuses s f d =
@@ -144,9 +157,8 @@ pub some_open : (names : List (List ℕ)) → some names ≡ not (eqb (length na
 some_open [] = refl
 some_open (n ∷ ns) = sym (ap not (ne_eqb (length (n ∷ ns)) 0 (λ e. omega arith)))
 
-pub open_found : (xs : List ℕ) (p : ℕ) (names : List (List ℕ)) (rooted : Bool) (k : Markup) (q : ℕ) → Finds xs p names rooted k (closes q) → 0 < length names
-open_found xs p [] rooted k q (end_tag i f) = absurd i
-open_found xs p (n ∷ ns) rooted k q f = omega arith
+pub root_room : Room [] false
+root_room = record { alone = λ _. refl; few = omega arith }
 
 pub root_fails : (xs : List ℕ) (p q : ℕ) (f : XmlFault) → Passes xs false p q → FindsAt xs q [] false (refuses (number f) (place f)) → RootFails xs p f
 root_fails xs p q f d g =
@@ -154,20 +166,22 @@ root_fails xs p q f d g =
     let m = means xs q [] false [] (Some f) (refused f g) in
     record { none = s.0 ∙ m.0; ends = s.1 ∙ m.1 }
 
-pub root_named : (xs : List ℕ) (p q n r : ℕ) (e : Bool) (w : List ℕ) → w ≡ part xs (q + 1) n → Passes xs false p q → FindsAt xs q [] false (opens n r e) → RootNamed xs p w
-root_named xs p q n r false w c d g =
+pub root_named : (xs : List ℕ) (p q n r : ℕ) (e : Bool) (w : List ℕ) → w ≡ part xs (q + 1) n → Passes xs false p q →
+    Begins xs q StartTag → IsStart xs q n r e → RootNamed xs p w
+root_named xs p q n r e w c d b i =
     let s = passes_same xs false p q [] false d refl in
-    let t = reading xs r (part xs (q + 1) n ∷ []) true in
-    let m = means xs q [] false _ _ (opened g t.reads) in
-    record { others = t.events; first = s.0 ∙ m.0 ∙ ap (λ x. Opening x ∷ t.events) (sym c); from = q + 1; to = n; cut = c }
-root_named xs p q n r true w c d g =
-    let s = passes_same xs false p q [] false d refl in
-    let t = reading xs r [] true in
-    let m = means xs q [] false _ _ (opened_empty g t.reads) in
-    record { others = Closing ∷ t.events; first = s.0 ∙ m.0 ∙ ap (λ x. Opening x ∷ Closing ∷ t.events) (sym c); from = q + 1; to = n; cut = c }
-
-pub root_room : Room [] false
-root_room = record { alone = λ _. refl; few = omega arith }
+    let o = opens_first xs q [] false n r e (found xs q [] false StartTag _ (sym b) (start root_room i)) in
+    record {
+      at = q;
+      before = passes_misc xs p q q d no_misc;
+      begins = b;
+      stop = n;
+      name = i.name;
+      cut = c;
+      others = o.0;
+      first = s.0 ∙ o.1 ∙ ap (λ x. Opening x ∷ o.0) (sym c);
+    }
 
 pub begun_open : (s : Tags) → 0 < length (tags_names s) → s.rooted ≡ true
-begun_open s d = elim (cases_Bool s.rooted) [ inl r ↦ r | inr r ↦ let z : length (tags_names s) ≡ 0 = ap (λ ns. length (open_names ns)) (s.fresh r) in absurd (omega arith) ]
+begun_open s d =
+    elim (cases_Bool s.rooted) [ inl r ↦ r | inr r ↦ let z : length (tags_names s) ≡ 0 = ap (λ ns. length (open_names ns)) (s.fresh r) in absurd (omega arith) ]

@@ -43,7 +43,8 @@ pub data Derives (xs : List ℕ) : Production → ℕ → ℕ → ℕ → Forest
   nothing : {k p : ℕ} → Derives xs content k p p none
   text : {k p q : ℕ} {trees : Forest (List ℕ)} → Begins xs p Text → Derives xs content k (p + 1) q trees → Derives xs content k p q trees
   comment : {k p r q : ℕ} {trees : Forest (List ℕ)} → Begins xs p Comment → IsComment xs p r → Derives xs content k r q trees → Derives xs content k p q trees
-  instruction : {k p r q : ℕ} {trees : Forest (List ℕ)} → Begins xs p Instruction → IsInstruction xs p r → Derives xs content k r q trees → Derives xs content k p q trees
+  instruction : {k p r q : ℕ} {trees : Forest (List ℕ)} → Begins xs p Instruction → IsInstruction xs p r →
+      Derives xs content k r q trees → Derives xs content k p q trees
   child : {k p r q : ℕ} {w : List ℕ} {inside behind : Forest (List ℕ)} →
       Derives xs element k p r (tree w inside none) → Derives xs content k r q behind → Derives xs content k p q (tree w inside behind)
 

@@ -163,7 +163,8 @@ module _ {xs : List ℕ} {p : ℕ} {names : List (List ℕ)} {rooted : Bool} whe
           let h = end_late xs n j to e in
           lower (omega arith)
 
-  pub end_fault : {k at : ℕ} (n : ℕ) → Spelled xs (p + 2) n → Innermost names (part xs (p + 2) n) → EndFault xs n k at → Finds xs p names rooted EndTag (refuses k at)
+  pub end_fault : {k at : ℕ} (n : ℕ) → Spelled xs (p + 2) n → Innermost names (part xs (p + 2) n) → EndFault xs n k at →
+      Finds xs p names rooted EndTag (refuses k at)
   end_fault {k = k} {at = at} n s i d = faulty (end_rest s.0 d) least
     where
       least : (j to : ℕ) → Wrong xs p names rooted EndTag j to → ComesBefore k at j to

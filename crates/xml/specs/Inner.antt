@@ -10,7 +10,7 @@ use Rattle.xml.specs.Markup.{markup, TagEnds, NameFault, TagFault}
 use Rattle.xml.specs.Reading.{Finds, FindsAt}
 use Rattle.xml.specs.Reading.Found.{skips, refuses}
 use Rattle.xml.specs.Total.{reading}
-use Rattle.xml.specs.Means.{labelled, tags_names, tags_meaning}
+use Rattle.xml.specs.Means.{labelled, tags_names, tags_meaning, NamesRoot, EndsIn}
 use Rattle.xml.specs.declared.markup.Markup.{Markup}
 use Rattle.xml.specs.declared.markup.Markup.TheVariants.{Nothing, StartTag, EndTag}
 use Rattle.xml.specs.declared.fault.ScanFault.{ScanFault}
@@ -128,15 +128,10 @@ pub record Comes (s t : Tags) (k : Stop) : Type 0 where
   pub rooted : t.rooted ≡ s.rooted
   pub markup : markup (drop t.place t.input.now) ≡ stop_markup k
 
--- Of a look ahead: the root's name is a part of the input
-pub record RootNamed (xs : List ℕ) (p : ℕ) (w : List ℕ) : Type 0 where
-  pub others : List (Event (List ℕ))
-  pub first : (reading xs p [] false).events ≡ Open w ∷ others
-  pub from : ℕ
-  pub to : ℕ
-  pub cut : w ≡ part xs from to
+-- Of a look ahead, where no event is behind: the root's name
+abbrev pub RootNamed : List ℕ → ℕ → List ℕ → Type 0
+RootNamed xs p w = NamesRoot xs p (reading xs p [] false).events w
 
 -- the listing ends in the fault before any event
-pub record RootFails (xs : List ℕ) (p : ℕ) (f : XmlFault) : Type 0 where
-  pub none : (reading xs p [] false).events ≡ []
-  pub ends : (reading xs p [] false).ending ≡ Some f
+abbrev pub RootFails : List ℕ → ℕ → XmlFault → Type 0
+RootFails xs p f = EndsIn (reading xs p [] false).events (reading xs p [] false).ending f

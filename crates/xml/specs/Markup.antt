@@ -92,7 +92,8 @@ pub data TagFault (xs : List ℕ) (n : ℕ) : ℕ → ℕ → Type 0 where
   slash_ended : byte xs n ≡ code "/" → length xs ≤ n + 1 → TagFault xs n 31 (length xs)
   slash_byte : byte xs n ≡ code "/" → n + 1 < length xs → (byte xs (n + 1) ≢ code ">") → TagFault xs n 30 (n + 1)
   unclosed : (is_white (byte xs n) || byte xs n == code ">") ≡ true → Longest (λ i. plain (byte xs i)) (length xs) n (length xs) → TagFault xs n 31 (length xs)
-  opened : (c : ℕ) → (is_white (byte xs n) || byte xs n == code ">") ≡ true → Longest (λ i. plain (byte xs i)) (length xs) n c → byte xs c ≡ code "<" → TagFault xs n 30 c
+  opened : (c : ℕ) → (is_white (byte xs n) || byte xs n == code ">") ≡ true → Longest (λ i. plain (byte xs i)) (length xs) n c →
+      byte xs c ≡ code "<" → TagFault xs n 30 c
 
 -- with the rest of an end tag
 pub data EndFault (xs : List ℕ) (n : ℕ) : ℕ → ℕ → Type 0 where

@@ -1,14 +1,16 @@
 -- What a reader means at its place, and what a look ahead answers.
-use Rattle.std.specs.Prelude.{◌≡◌, ℕ, Bool, true, false, List, [], ◌∷◌, map, reverse, Some, None, Ok, Err, Option, Result}
+use Rattle.std.specs.Prelude.{◌≡◌, ℕ, ◌+◌, Bool, true, false, List, [], ◌∷◌, map, reverse, Some, None, Ok, Err, Option, Result}
 use denote.Ref.{Bor}
-use Rattle.labels.specs.Spelling.{part}
+use Rattle.labels.specs.Spelling.{part, Spelled}
 use Rattle.labels.specs.Names.{bytes_of}
 use Rattle.labels.specs.NameOf.{name_of}
 use Rattle.labels.specs.declared.name.Name.{Name}
 use Rattle.sources.specs.declared.event.Event.{Event}
 use Rattle.sources.specs.declared.event.Event.TheVariants.{Open, Close}
 use Rattle.xml.specs.Reading.{Meaning}
+use Rattle.xml.specs.Documents.{Begins, Misc}
 use Rattle.xml.specs.Total.{reading}
+use Rattle.xml.specs.declared.markup.Markup.TheVariants.{StartTag}
 use Rattle.xml.specs.declared.fault.XmlFault.{XmlFault}
 use Rattle.xml.specs.declared.fault.LookFault.{LookFault}
 use Rattle.xml.specs.declared.fault.LookFault.TheVariants.{Listing, Begun}
@@ -62,33 +64,49 @@ begun_by before (Ok (Some e)) = true
 begun_by before (Ok None) = before
 begun_by before (Err f) = before
 
--- A look ahead answers the root's name, as a part of the input: it is in the first event to come
+-- The root's name, for a reader at p: from p to the root's start tag, which is at `at`, there is only Misc, and the root's opening is the
+-- first event.
+pub record NamesRoot (xs : List ℕ) (p : ℕ) (es : List (Event (List ℕ))) (w : List ℕ) : Type 0 where
+  pub at : ℕ
+  pub before : Misc xs p at
+  pub begins : Begins xs at StartTag
+  pub stop : ℕ
+  pub name : Spelled xs (at + 1) stop
+  pub cut : w ≡ part xs (at + 1) stop
+  pub others : List (Event (List ℕ))
+  pub first : es ≡ Open w ∷ others
+
+-- no event, and the fault for an ending
+pub record EndsIn (es : List (Event (List ℕ))) (end : Option XmlFault) (f : XmlFault) : Type 0 where
+  pub none : es ≡ []
+  pub ends : end ≡ Some f
+
+-- A look ahead answers the root's name, as a part of the input: it stands in the root's start tag, and in the first event to come.
 pub record Looks (s : Xml) (w : List ℕ) : Type 0 where
   pub early : begun s ≡ false
-  pub others : List (Event (List ℕ))
-  pub first : xml_spelled s ≡ Open w ∷ others
-  pub from : ℕ
-  pub to : ℕ
-  pub cut : w ≡ part s.tags.input.now from to
+  pub root : NamesRoot s.tags.input.now s.tags.place (xml_spelled s) w
 
--- The listing ends in the fault before any event: next would answer it
+-- The listing ends in the fault before any event: next would answer it.
 pub record Fails (s : Xml) (f : XmlFault) : Type 0 where
   pub early : begun s ≡ false
-  pub none : xml_spelled s ≡ []
-  pub ends : xml_ending s ≡ Some f
+  pub fault : EndsIn (xml_spelled s) (xml_ending s) f
 
 -- Why a look ahead answers no name: an event is behind the reader, or the listing ends in a fault before any
 abbrev pub NoLook : Xml → LookFault → Type 0
 NoLook s Begun = begun s ≡ true
 NoLook s (Listing f) = Fails s f
 
--- and leaves the reader as it was
+-- A look ahead leaves the state as it was: the input, the place, the open elements, and whether the root's start tag is past.
 pub record Kept (s t : Tags) : Type 0 where
   pub input : t.input.now ≡ s.input.now
   pub place : t.place ≡ s.place
   pub opened : t.opened ≡ s.opened
   pub rooted : t.rooted ≡ s.rooted
 
+-- A look ahead leaves the reader as it was: the same events are to come, the ending is the same, and so is whether an event is behind it.
 pub record Unmoved (s t : Xml) : Type 0 where
+  pub events : xml_events t ≡ xml_events s
+  pub ending : xml_ending t ≡ xml_ending s
+  pub begun : begun t ≡ begun s
   pub tags : Kept s.tags t.tags
   pub closing : t.closing ≡ s.closing

@@ -24,11 +24,14 @@ none_left (suc k) h = absurd (omega arith)
 -- what is done closes all
 all_closed : (xs : List ℕ) (p : ℕ) (names : List (List ℕ)) (rooted : Bool) (es : List (Event (List ℕ))) (end : Option XmlFault) →
     Reads xs p names rooted es end → end ≡ None → (k : ℕ) → k ≤ length names → ClosedFrom k (map labelled es)
-all_closed xs p names rooted es end (done f) e k h = let n = finish_empty xs p names rooted _ f in let z : length names ≡ 0 = ap length n in none_left k (omega arith)
+all_closed xs p names rooted es end (done f) e k h =
+    let n = finish_empty xs p names rooted _ f in let z : length names ≡ 0 = ap length n in none_left k (omega arith)
 all_closed xs p names rooted es end (refused g f) e k h = let z : ◌≡◌ {A = ℕ} 0 1 = cc in absurd (omega arith)
 all_closed xs p names rooted es end (skipped {q = q} f d) e k h = all_closed xs q names rooted es end d e k h
-all_closed xs p names rooted es end (opened {n = n} {q = q} {es = ds} f d) e zero h = all_closed xs q (part xs (p + 1) n ∷ names) true ds end d e (suc zero) (omega arith)
-all_closed xs p names rooted es end (opened {n = n} {q = q} {es = ds} f d) e (suc k) h = all_closed xs q (part xs (p + 1) n ∷ names) true ds end d e (suc (suc k)) (omega arith)
+all_closed xs p names rooted es end (opened {n = n} {q = q} {es = ds} f d) e zero h =
+    all_closed xs q (part xs (p + 1) n ∷ names) true ds end d e (suc zero) (omega arith)
+all_closed xs p names rooted es end (opened {n = n} {q = q} {es = ds} f d) e (suc k) h =
+    all_closed xs q (part xs (p + 1) n ∷ names) true ds end d e (suc (suc k)) (omega arith)
 all_closed xs p names rooted es end (opened_empty {n = n} {q = q} {es = ds} f d) e zero h = all_closed xs q names true ds end d e zero h
 all_closed xs p names rooted es end (opened_empty {n = n} {q = q} {es = ds} f d) e (suc k) h = all_closed xs q names true ds end d e (suc k) h
 all_closed xs p names rooted es end (closed {q = q} {names = ns} {es = ds} f d) e zero h = all_closed xs q ns rooted ds end d e zero (omega arith)

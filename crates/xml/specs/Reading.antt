@@ -72,7 +72,8 @@ FindsAt xs p names rooted f = Finds xs p names rooted (markup (drop p xs)) f
 -- The events of a listing from a place on, and its ending: done, or the fault that comes first
 pub data Reads (xs : List ℕ) : ℕ → List (List ℕ) → Bool → List (Event (List ℕ)) → Option XmlFault → Type 0 where
   done : {p : ℕ} {names : List (List ℕ)} {rooted : Bool} → FindsAt xs p names rooted finishes → Reads xs p names rooted [] None
-  refused : {p : ℕ} {names : List (List ℕ)} {rooted : Bool} (f : XmlFault) → FindsAt xs p names rooted (refuses (number f) (place f)) → Reads xs p names rooted [] (Some f)
+  refused : {p : ℕ} {names : List (List ℕ)} {rooted : Bool} (f : XmlFault) →
+      FindsAt xs p names rooted (refuses (number f) (place f)) → Reads xs p names rooted [] (Some f)
   skipped : {p q : ℕ} {names : List (List ℕ)} {rooted : Bool} {es : List (Event (List ℕ))} {end : Option XmlFault} →
       FindsAt xs p names rooted (skips q) → Reads xs q names rooted es end → Reads xs p names rooted es end
   opened : {p n q : ℕ} {names : List (List ℕ)} {rooted : Bool} {es : List (Event (List ℕ))} {end : Option XmlFault} →

@@ -1,6 +1,7 @@
 -- The scans of markup find one end or one fault, and not both.
-use Rattle.std.specs.Prelude.{◌≡◌, ℕ, zero, suc, ◌+◌, ◌-◌, ◌<◌, ◌≤◌, Bool, true, false, cond, ◌||◌, ◌⊎◌, List, length, refl}
-use Rattle.std.proofs.Common.{eqb, ltb, sym, ap, ◌∙◌, subst, inl, inr, arith}
+use Rattle.std.specs.Prelude.{◌≡◌, ℕ, zero, suc, ◌+◌, ◌-◌, ◌<◌, ◌≤◌, Bool, true, false, cond, ◌||◌, ◌⊎◌, List, length, ◌==◌, refl}
+use Rattle.std.proofs.Common.{ltb, sym, ap, ◌∙◌, subst, inl, inr, arith}
+use Prim.Native.Char.{code}
 use Rattle.std.proofs.lemmas.List.{get_or_past}
 use Rattle.std.proofs.lemmas.Bool.{cases_lt, cases_order, cases_Bool, ne_eqb, eq-eqb, lt-ltb, le-ltb, or_left, or_parts, or_from, both_ways}
 use Rattle.labels.specs.Spelling.{byte, is_white, starts_name, continues_name, Longest, Named, Spelled}
@@ -22,7 +23,6 @@ longest_by ok end (suc n) p e = go (cases_Bool (ok p)) (longest_by ok end n (p +
     go (inr h) r = (p, record { late = omega arith; within = omega arith; all = λ i a b. absurd (omega arith); stops = λ _. h })
     go (inl h) (q, l) =
         let late = l.late in
-        let none : (i : ℕ) → p ≤ i → i < p → ok i ≡ true = λ i a b. absurd (omega arith) in
         (q, record { late = omega arith; within = l.within; all = λ i a b. both i a b (cases_lt i (p + 1)); stops = l.stops })
       where
         both : (i : ℕ) → p ≤ i → i < q → ((i < p + 1) ⊎ (p + 1 ≤ i)) → ok i ≡ true
@@ -39,6 +39,10 @@ longest_same ok end p q r l m = go (cases_order q r)
     go (inl e) = e
     go (inr (inl h)) = let w = m.within in absurd (both_ways (ok q) (l.stops (omega arith)) (m.all q l.late h))
     go (inr (inr h)) = let w = l.within in absurd (both_ways (ok r) (m.stops (omega arith)) (l.all r m.late h))
+
+-- a run that reaches the end ends there
+pub run_out : (ok : ℕ → Bool) (end p q : ℕ) → Longest ok end p q → end ≤ q → Longest ok end p end
+run_out ok end p q l h = let w = l.within in let e : q ≡ end = omega arith in subst (Longest ok end p) e l
 
 -- a byte that is not 0 stands within
 pub standing : (xs : List ℕ) (i b : ℕ) → byte xs i ≡ b → 0 < b → i < length xs
@@ -91,11 +95,14 @@ module _ (xs : List ℕ) where
   pub comment_same : (p q r : ℕ) → IsComment xs p q → IsComment xs p r → q ≡ r
   comment_same p q r a b = let e = longest_same _ _ (p + 4) a.dashes b.dashes a.first b.first in let f = a.ends in let g = b.ends in omega arith
 
+  pub comment_within : (p q : ℕ) → IsComment xs p q → q ≤ length xs
+  comment_within p q a = let e = a.ends in omega (arith, standing xs (a.dashes + 1 + 1) (code ">") a.closes.1.1.0 (omega arith))
+
   pub comment_apart : (p q k at : ℕ) → IsComment xs p q → CommentFault xs (p + 4) k at → ⊥
   comment_apart p q k at a (comment_ended d l h) =
       let e = longest_same _ _ (p + 4) a.dashes d a.first l in
-      let s = standing xs (a.dashes + 1 + 1) 62 a.closes.1.1.0 (omega arith) in
-      omega arith
+      let f = a.ends in
+      omega (arith, comment_within p q a)
   comment_apart p q k at a (comment_byte d l h n) =
       let e = longest_same _ _ (p + 4) a.dashes d a.first l in
       let s : a.dashes + 1 + 1 ≡ d + 2 = omega arith in
@@ -110,11 +117,14 @@ module _ (xs : List ℕ) where
   pub instruction_same : (p q r : ℕ) → IsInstruction xs p q → IsInstruction xs p r → q ≡ r
   instruction_same p q r a b = let e = longest_same _ _ (p + 2) a.close b.close a.first b.first in let f = a.ends in let g = b.ends in omega arith
 
+  pub instruction_within : (p q : ℕ) → IsInstruction xs p q → q ≤ length xs
+  instruction_within p q a = let e = a.ends in omega (arith, standing xs (a.close + 1) (code ">") a.closes.1.0 (omega arith))
+
   pub instruction_apart : (p q k at : ℕ) → IsInstruction xs p q → InstructionFault xs p k at → ⊥
   instruction_apart p q k at a (instruction_ended l) =
       let e = longest_same _ _ (p + 2) a.close (length xs) a.first l in
-      let s = standing xs a.close 63 a.closes.0 (omega arith) in
-      omega arith
+      let f = a.ends in
+      omega (arith, instruction_within p q a)
 
   pub instruction_fault_same : (p k at j to : ℕ) → InstructionFault xs p k at → InstructionFault xs p j to → refuses k at ≡ refuses j to
   instruction_fault_same p k at j to (instruction_ended l) (instruction_ended m) = refl
@@ -125,7 +135,7 @@ module _ (xs : List ℕ) where
   pub end_apart : (n q k at : ℕ) → EndEnds xs n q → EndFault xs n k at → ⊥
   end_apart n q k at a (end_ended l) =
       let e = longest_same _ _ n q (length xs) a.space l in
-      let s = standing xs q 62 a.closes (omega arith) in
+      let s = standing xs q (code ">") a.closes (omega arith) in
       omega arith
   end_apart n q k at a (end_byte c l h ne) = let e = longest_same _ _ n q c a.space l in ne (sym (ap (byte xs) e) ∙ a.closes)
 
@@ -144,56 +154,56 @@ module _ (xs : List ℕ) where
   tag_same n q r a b = longest_same _ _ n q r a.rest b.rest
 
   pub tag_apart : (n q k at : ℕ) → TagEnds xs n q → TagFault xs n k at → ⊥
-  tag_apart n q k at a (tag_ended h) = let l = test_stands xs n (λ b. is_white b || (eqb b 47 || eqb b 62)) refl a.after in omega arith
+  tag_apart n q k at a (tag_ended h) = let l = test_stands xs n (λ b. is_white b || (b == code "/" || b == code ">")) refl a.after in omega arith
   tag_apart n q k at a (tag_byte h e) = both_ways _ e a.after
   tag_apart n q k at a (slash_ended s h) =
       let e = a.slash s in
-      let l = standing xs q 62 a.closes (omega arith) in
+      let l = standing xs q (code ">") a.closes (omega arith) in
       omega arith
   tag_apart n q k at a (slash_byte s h ne) = ne (sym (ap (byte xs) (a.slash s)) ∙ a.closes)
   tag_apart n q k at a (unclosed b l) =
       let e = longest_same _ _ n q (length xs) a.rest l in
-      let s = standing xs q 62 a.closes (omega arith) in
+      let s = standing xs q (code ">") a.closes (omega arith) in
       omega arith
   tag_apart n q k at a (bracket_opened c b l f) =
       let e = ap (byte xs) (longest_same _ _ n q c a.rest l) in
       let g = a.closes in
       omega arith
 
-  no_47 : (b : ℕ) → (is_white b || eqb b 62) ≡ true → eqb b 47 ≡ false
-  no_47 b h = ne_eqb b 47 (λ e. both_ways _ refl (sym (ap (λ x. is_white x || eqb x 62) e) ∙ h))
+  not_slash : (b : ℕ) → (is_white b || b == code ">") ≡ true → (b == code "/") ≡ false
+  not_slash b h = ne_eqb b (code "/") (λ e. both_ways _ refl (sym (ap (λ x. is_white x || x == code ">") e) ∙ h))
 
   -- the fault of a tag, by the first bracket c
   abbrev tag_code : ℕ → ℕ → Found
   tag_code n c =
       cond (ltb n (length xs))
-      (cond (eqb (byte xs n) 47) (cond (ltb (n + 1) (length xs)) (refuses 30 (n + 1)) (refuses 31 (length xs)))
-      (cond (is_white (byte xs n) || eqb (byte xs n) 62) (cond (ltb c (length xs)) (refuses 30 c) (refuses 31 (length xs))) (refuses 30 n)))
+      (cond (byte xs n == code "/") (cond (ltb (n + 1) (length xs)) (refuses 30 (n + 1)) (refuses 31 (length xs)))
+      (cond (is_white (byte xs n) || byte xs n == code ">") (cond (ltb c (length xs)) (refuses 30 c) (refuses 31 (length xs))) (refuses 30 n)))
       (refuses 31 (length xs))
 
   tag_coded : (n c k at : ℕ) → Longest (λ i. plain (byte xs i)) (length xs) n c → TagFault xs n k at → refuses k at ≡ tag_code n c
   tag_coded n c k at m (tag_ended h) = rw (le-ltb n (length xs) h)
   tag_coded n c k at m (tag_byte h e) =
-      let o = or_parts (is_white (byte xs n)) (eqb (byte xs n) 47 || eqb (byte xs n) 62) e in
-      let u = or_parts (eqb (byte xs n) 47) (eqb (byte xs n) 62) o.1 in
+      let o = or_parts (is_white (byte xs n)) (byte xs n == code "/" || byte xs n == code ">") e in
+      let u = or_parts (byte xs n == code "/") (byte xs n == code ">") o.1 in
       rw (lt-ltb n (length xs) h, u.0, or_from _ _ o.0 u.1)
   tag_coded n c k at m (slash_ended s h) =
-      let l = standing xs n 47 s (omega arith) in
-      rw (lt-ltb n (length xs) l, eq-eqb (byte xs n) 47 s, le-ltb (n + 1) (length xs) h)
+      let l = standing xs n (code "/") s (omega arith) in
+      rw (lt-ltb n (length xs) l, eq-eqb (byte xs n) (code "/") s, le-ltb (n + 1) (length xs) h)
   tag_coded n c k at m (slash_byte s h ne) =
       let l : n < length xs = omega arith in
-      rw (lt-ltb n (length xs) l, eq-eqb (byte xs n) 47 s, lt-ltb (n + 1) (length xs) h)
+      rw (lt-ltb n (length xs) l, eq-eqb (byte xs n) (code "/") s, lt-ltb (n + 1) (length xs) h)
   tag_coded n c k at m (unclosed b l) =
-      let w = test_stands xs n (λ b. is_white b || eqb b 62) refl b in
+      let w = test_stands xs n (λ b. is_white b || b == code ">") refl b in
       let e = longest_same _ _ n c (length xs) m l in
       let f : length xs ≤ c = omega arith in
-      rw (lt-ltb n (length xs) w, no_47 (byte xs n) b, b, le-ltb c (length xs) f)
+      rw (lt-ltb n (length xs) w, not_slash (byte xs n) b, b, le-ltb c (length xs) f)
   tag_coded n c k at m (bracket_opened d b l f) =
-      let w = test_stands xs n (λ b. is_white b || eqb b 62) refl b in
+      let w = test_stands xs n (λ b. is_white b || b == code ">") refl b in
       let e = longest_same _ _ n c d m l in
-      let g = standing xs d 60 f (omega arith) in
+      let g = standing xs d (code "<") f (omega arith) in
       let in_it : c < length xs = omega arith in
-      rw (lt-ltb n (length xs) w, no_47 (byte xs n) b, b, lt-ltb c (length xs) in_it) (ap (refuses 30) (sym e))
+      rw (lt-ltb n (length xs) w, not_slash (byte xs n) b, b, lt-ltb c (length xs) in_it) (ap (refuses 30) (sym e))
 
   pub tag_fault_same : (n k at j to : ℕ) → n ≤ length xs → TagFault xs n k at → TagFault xs n j to → refuses k at ≡ refuses j to
   tag_fault_same n k at j to h a b =
@@ -216,7 +226,7 @@ module _ (xs : List ℕ) where
       let ends = a.ends in
       let ends₁ = b.ends in
       let same_q : q ≡ r = omega arith in
-      let same_e : e ≡ f = a.slash ∙ ap (λ x. eqb (byte xs (x - 1)) 47) c ∙ sym b.slash in
+      let same_e : e ≡ f = a.slash ∙ ap (λ x. byte xs (x - 1) == code "/") c ∙ sym b.slash in
       λ i. opens (g i) (same_q i) (same_e i)
 
   pub close_same : (p n q m r : ℕ) → IsEnd xs p n q → IsEnd xs p m r → q ≡ r

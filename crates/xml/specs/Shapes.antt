@@ -1,8 +1,9 @@
 -- What the bytes from a place on are, by the place.
 use Rattle.std.specs.Prelude.{◌≡◌, ℕ, suc, ◌+◌, ◌-◌, ◌<◌, ◌≤◌, Bool, true, false, cond, ◌||◌, ◌⊎◌, List, [], ◌∷◌, length, drop, ◌==◌, ◌≢◌, slice_index, refl}
 use Rattle.std.proofs.Common.{sym, ◌∙◌, ap, subst, inl, inr, add-zero, arith, length-drop}
+use Prim.Native.Char.{code}
 use Rattle.std.proofs.lemmas.List.{get_or-drop}
-use Rattle.std.proofs.lemmas.Bool.{cases_lt, and_parts, not-false, eqb-true, or_cases}
+use Rattle.std.proofs.lemmas.Bool.{cases_lt, and_parts, not-false, eqb-true, or_cases, both_ways}
 use Rattle.labels.specs.Spelling.{byte, is_white, starts_name, Longest}
 use Rattle.xml.specs.Bytes.{plain, apart}
 use Rattle.xml.specs.Markup.{markup, behind, two_dashes, TagEnds}
@@ -37,26 +38,38 @@ least StartTag = 2
 least Cut = 1
 least Stray = 2
 
-behind_long : (bs : List ℕ) → least (behind bs) ≤ suc (length bs)
-behind_long [] = omega arith
-behind_long (b ∷ bs) = go (b == 47) (b == 33) (two_dashes bs) refl (b == 63) (starts_name b)
+-- it is not the end, and n bytes have room for it
+abbrev Fits : Markup → ℕ → Type 0
+Fits k n = (0 < least k) × (least k ≤ n)
+
+behind_long : (bs : List ℕ) → Fits (behind bs) (suc (length bs))
+behind_long [] = (omega arith, omega arith)
+behind_long (b ∷ bs) = go (b == code "/") (b == code "!") (two_dashes bs) refl (b == code "?") (starts_name b)
   where
     go : (t₁ t₂ t₃ : Bool) → two_dashes bs ≡ t₃ → (t₄ t₅ : Bool) →
-        least (cond t₁ EndTag (cond t₂ (cond t₃ Comment Declaration) (cond t₄ Instruction (cond t₅ StartTag Stray)))) ≤ suc (suc (length bs))
-    go true t₂ t₃ e t₄ t₅ = omega arith
-    go false true true e t₄ t₅ = omega (arith, dashes_long bs e)
-    go false true false e t₄ t₅ = omega arith
-    go false false t₃ e true t₅ = omega arith
-    go false false t₃ e false true = omega arith
-    go false false t₃ e false false = omega arith
+        Fits (cond t₁ EndTag (cond t₂ (cond t₃ Comment Declaration) (cond t₄ Instruction (cond t₅ StartTag Stray)))) (suc (suc (length bs)))
+    go true t₂ t₃ e t₄ t₅ = (omega arith, omega arith)
+    go false true true e t₄ t₅ = (omega arith, omega (arith, dashes_long bs e))
+    go false true false e t₄ t₅ = (omega arith, omega arith)
+    go false false t₃ e true t₅ = (omega arith, omega arith)
+    go false false t₃ e false true = (omega arith, omega arith)
+    go false false t₃ e false false = (omega arith, omega arith)
+
+some_long : (b : ℕ) (bs : List ℕ) → Fits (markup (b ∷ bs)) (suc (length bs))
+some_long b bs = go (b == code "<") (behind_long bs)
+  where
+    go : (t : Bool) → Fits (behind bs) (suc (length bs)) → Fits (cond t (behind bs) Text) (suc (length bs))
+    go true h = h
+    go false h = (omega arith, omega arith)
 
 markup_long : (bs : List ℕ) → least (markup bs) ≤ length bs
 markup_long [] = omega arith
-markup_long (b ∷ bs) = go (b == 60) (behind_long bs)
-  where
-    go : (t : Bool) → least (behind bs) ≤ suc (length bs) → least (cond t (behind bs) Text) ≤ suc (length bs)
-    go true h = h
-    go false h = omega arith
+markup_long (b ∷ bs) = (some_long b bs).1
+
+-- where nothing begins, no byte is left
+pub markup_none : (bs : List ℕ) → markup bs ≡ Nothing → length bs ≡ 0
+markup_none [] e = refl
+markup_none (b ∷ bs) e = let h = (some_long b bs).0 in absurd (omega (arith, ap least e))
 
 -- the bytes from p on are so many at least
 pub reaches : (xs : List ℕ) (p : ℕ) (k : Markup) → markup (drop p xs) ≡ k → 0 < least k → p + least k ≤ length xs
@@ -82,42 +95,42 @@ one_more ok p q h e i a b = go (cases_lt i q)
     go (inr l) = let s : q ≡ i = omega arith in subst (λ j. ok j ≡ true) s e
 
 -- the rest of a start tag: `/>` right after the name
-pub slash_tag : (xs : List ℕ) (n : ℕ) → byte xs n ≡ 47 → n + 1 < length xs → byte xs (n + 1) ≡ 62 → TagEnds xs n (n + 1)
+pub slash_tag : (xs : List ℕ) (n : ℕ) → byte xs n ≡ code "/" → n + 1 < length xs → byte xs (n + 1) ≡ code ">" → TagEnds xs n (n + 1)
 slash_tag xs n e h f =
     let at_n : plain (byte xs n) ≡ true = ap plain e in
     let here : (i : ℕ) → n ≤ i → i < n → plain (byte xs i) ≡ true = λ i a b. absurd (omega arith) in
     record {
-      after = ap (λ b. is_white b || (b == 47 || b == 62)) e;
+      after = ap (λ b. is_white b || (b == code "/" || b == code ">")) e;
       slash = λ _. refl;
       rest = record { late = omega arith; within = omega arith; all = one_more (λ i. plain (byte xs i)) n n here at_n; stops = λ _. ap plain f };
       closes = f;
     }
 
 -- white space or `>` right after the name
-no_slash : (b : ℕ) → (is_white b || b == 62) ≡ true → ((is_white b || (b == 47 || b == 62)) ≡ true) × (b ≢ 47)
-no_slash b h = (go (is_white b) (b == 47) (b == 62) h, λ e. let z : false ≡ true = (sym (ap (λ x. is_white x || x == 62) e)) ∙ h in let y : ◌≡◌ {A = ℕ} 0 1 = cc in omega arith)
+no_slash : (b : ℕ) → (is_white b || b == code ">") ≡ true → ((is_white b || (b == code "/" || b == code ">")) ≡ true) × (b ≢ code "/")
+no_slash b h = (go (is_white b) (b == code "/") (b == code ">") h, λ e. both_ways _ refl (sym (ap (λ x. is_white x || x == code ">") e) ∙ h))
   where
     go : (t₁ t₂ t₃ : Bool) → (t₁ || t₃) ≡ true → (t₁ || (t₂ || t₃)) ≡ true
     go true t₂ t₃ h = refl
     go false true t₃ h = refl
     go false false t₃ h = h
 
-not_plain : (b : ℕ) → plain b ≡ false → (b ≢ 60) → b ≡ 62
-not_plain b h n = go (or_cases (b == 60) (b == 62) (not-false _ h))
+not_plain : (b : ℕ) → plain b ≡ false → (b ≢ code "<") → b ≡ code ">"
+not_plain b h n = go (or_cases (b == code "<") (b == code ">") (not-false _ h))
   where
-    go : (((b == 60) ≡ true) ⊎ ((b == 62) ≡ true)) → b ≡ 62
-    go (inl e) = absurd (n (eqb-true b 60 e))
-    go (inr e) = eqb-true b 62 e
+    go : (((b == code "<") ≡ true) ⊎ ((b == code ">") ≡ true)) → b ≡ code ">"
+    go (inl e) = absurd (n (eqb-true b (code "<") e))
+    go (inr e) = eqb-true b (code ">") e
 
-pub no_close : (b : ℕ) → plain b ≡ false → (b ≢ 62) → b ≡ 60
-no_close b h n = go (or_cases (b == 60) (b == 62) (not-false _ h))
+pub no_close : (b : ℕ) → plain b ≡ false → (b ≢ code ">") → b ≡ code "<"
+no_close b h n = go (or_cases (b == code "<") (b == code ">") (not-false _ h))
   where
-    go : (((b == 60) ≡ true) ⊎ ((b == 62) ≡ true)) → b ≡ 60
-    go (inl e) = eqb-true b 60 e
-    go (inr e) = absurd (n (eqb-true b 62 e))
+    go : (((b == code "<") ≡ true) ⊎ ((b == code ">") ≡ true)) → b ≡ code "<"
+    go (inl e) = eqb-true b (code "<") e
+    go (inr e) = absurd (n (eqb-true b (code ">") e))
 
-pub bracket_tag : (xs : List ℕ) (n c : ℕ) → (is_white (byte xs n) || byte xs n == 62) ≡ true → Longest (λ i. plain (byte xs i)) (length xs) n c →
-    c < length xs → (byte xs c ≢ 60) → TagEnds xs n c
+pub bracket_tag : (xs : List ℕ) (n c : ℕ) → (is_white (byte xs n) || byte xs n == code ">") ≡ true → Longest (λ i. plain (byte xs i)) (length xs) n c →
+    c < length xs → (byte xs c ≢ code "<") → TagEnds xs n c
 bracket_tag xs n c h l w ne =
     let s = no_slash (byte xs n) h in
     record { after = s.0; slash = λ e. absurd (s.1 e); rest = l; closes = not_plain (byte xs c) (l.stops w) ne }

@@ -1,6 +1,7 @@
 -- Every listing has a meaning.
 use Rattle.std.specs.Prelude.{◌≡◌, ℕ, zero, suc, ◌+◌, ◌-◌, ◌<◌, ◌≤◌, Bool, true, false, ◌||◌, ◌⊎◌, List, [], ◌∷◌, length, drop, Some, None, ◌==◌, ◌≢◌, refl}
 use Rattle.std.proofs.Common.{sym, ◌∙◌, ap, subst, inl, inr, arith}
+use Prim.Native.Char.{code}
 use Rattle.std.proofs.lemmas.List.{drop_all}
 use Rattle.std.proofs.lemmas.Bool.{cases_lt, cases_eq, cases_Bool, ne_eqb, or_parts, or_from}
 use Rattle.std.proofs.lemmas.Slice.Eq.{bytes_eq-Decides}
@@ -20,7 +21,7 @@ use Rattle.xml.specs.Reading.{depth_limit, Room, Innermost, Finds, Meaning}
 use Rattle.xml.specs.Reading.Found.{finishes, skips, opens, closes, refuses}
 use Rattle.xml.specs.Reading.Finds.{finish, text, comment, instruction, start, end_tag}
 use Rattle.xml.specs.Reading.Reads.{done, refused, skipped, opened, opened_empty, closed}
-use Rattle.xml.specs.ScanLaws.{longest}
+use Rattle.xml.specs.ScanLaws.{longest, run_out}
 use Rattle.xml.specs.FaultLaws.{early, no_text, comment_fault, instruction_fault, declaration, cut, stray, second, deep, start_named, start_rested, end_named, wrong_name, end_fault}
 use Rattle.xml.specs.declared.markup.Markup.{Markup}
 use Rattle.xml.specs.declared.markup.Markup.TheVariants.{Nothing, Text, EndTag, Comment, Declaration, Instruction, StartTag, Cut, Stray}
@@ -37,16 +38,13 @@ module _ (xs : List ℕ) where
   some_name : (p : ℕ) → Outcome (Spelled xs p) (NameFault xs p)
   some_name p = go (cases_lt p (length xs))
     where
-      by_length : starts_name (byte xs p) ≡ true → (q : ℕ) → Longest (λ i. continues_name (byte xs i)) (length xs) p q → ((q ≤ p + name_limit) ⊎ (p + name_limit < q)) → Outcome (Spelled xs p) (NameFault xs p)
-      by_length s q l (inl h) = good q (record { begins = s; ends = l }, h)
-      by_length s q l (inr h) = bad (Scan (LongName p)) (long q (record { begins = s; ends = l }) h)
-
-      swap : {A B : Type 0} → (A ⊎ B) → B ⊎ A
-      swap (inl a) = inr a
-      swap (inr b) = inl b
+      by_length : starts_name (byte xs p) ≡ true → (q : ℕ) → Longest (λ i. continues_name (byte xs i)) (length xs) p q →
+          ((p + name_limit < q) ⊎ (q ≤ p + name_limit)) → Outcome (Spelled xs p) (NameFault xs p)
+      by_length s q l (inl h) = bad (Scan (LongName p)) (long q (record { begins = s; ends = l }) h)
+      by_length s q l (inr h) = good q (record { begins = s; ends = l }, h)
 
       first : p < length xs → ((starts_name (byte xs p) ≡ true) ⊎ (starts_name (byte xs p) ≡ false)) → Outcome (Spelled xs p) (NameFault xs p)
-      first h (inl s) = let l = longest (λ i. continues_name (byte xs i)) (length xs) p (omega arith) in by_length s l.0 l.1 (swap (cases_lt (p + name_limit) l.0))
+      first h (inl s) = let l = longest (λ i. continues_name (byte xs i)) (length xs) p (omega arith) in by_length s l.0 l.1 (cases_lt (p + name_limit) l.0)
       first h (inr s) = bad (Scan (Byte p)) (no_start h s)
 
       go : ((p < length xs) ⊎ (length xs ≤ p)) → Outcome (Spelled xs p) (NameFault xs p)
@@ -54,68 +52,63 @@ module _ (xs : List ℕ) where
       go (inr h) = bad (Scan (End (length xs))) (name_ended h)
 
   some_comment : (p : ℕ) → p + 4 ≤ length xs → Outcome (IsComment xs p) (CommentFault xs (p + 4))
-  some_comment p h = go (longest (apart xs 45 45) (length xs) (p + 4) h)
+  some_comment p h = go (longest (apart xs (code "-") (code "-")) (length xs) (p + 4) h)
     where
-      behind_it : (d : ℕ) → Longest (apart xs 45 45) (length xs) (p + 4) d → d + 2 < length xs → ((byte xs (d + 2) ≡ 62) ⊎ (byte xs (d + 2) ≢ 62)) →
-          Outcome (IsComment xs p) (CommentFault xs (p + 4))
+      behind_it : (d : ℕ) → Longest (apart xs (code "-") (code "-")) (length xs) (p + 4) d → d + 2 < length xs →
+          ((byte xs (d + 2) ≡ code ">") ⊎ (byte xs (d + 2) ≢ code ">")) → Outcome (IsComment xs p) (CommentFault xs (p + 4))
       behind_it d l w (inl e) =
-          let b = pair_here xs 45 45 d (l.stops (omega arith)) in
+          let b = pair_here xs (code "-") (code "-") d (l.stops (omega arith)) in
           let s : d + 1 + 1 ≡ d + 2 = omega arith in
           good (d + 3) (record { dashes = d; first = l; closes = (b.0, (b.1, (ap (byte xs) s ∙ e, tt))); ends = refl })
       behind_it d l w (inr ne) = bad (Scan (Byte (d + 2))) (comment_byte d l w ne)
 
-      fits : (d : ℕ) → Longest (apart xs 45 45) (length xs) (p + 4) d → ((d + 2 < length xs) ⊎ (length xs ≤ d + 2)) → Outcome (IsComment xs p) (CommentFault xs (p + 4))
-      fits d l (inl w) = behind_it d l w (cases_eq (byte xs (d + 2)) 62)
+      fits : (d : ℕ) → Longest (apart xs (code "-") (code "-")) (length xs) (p + 4) d → ((d + 2 < length xs) ⊎ (length xs ≤ d + 2)) →
+          Outcome (IsComment xs p) (CommentFault xs (p + 4))
+      fits d l (inl w) = behind_it d l w (cases_eq (byte xs (d + 2)) (code ">"))
       fits d l (inr w) = bad (Scan (End (length xs))) (comment_ended d l w)
 
-      go : ((d : ℕ) × Longest (apart xs 45 45) (length xs) (p + 4) d) → Outcome (IsComment xs p) (CommentFault xs (p + 4))
+      go : ((d : ℕ) × Longest (apart xs (code "-") (code "-")) (length xs) (p + 4) d) → Outcome (IsComment xs p) (CommentFault xs (p + 4))
       go (d, l) = fits d l (cases_lt (d + 2) (length xs))
 
   some_instruction : (p : ℕ) → p + 2 ≤ length xs → Outcome (IsInstruction xs p) (InstructionFault xs p)
-  some_instruction p h = go (longest (apart xs 63 62) (length xs) (p + 2) h)
+  some_instruction p h = go (longest (apart xs (code "?") (code ">")) (length xs) (p + 2) h)
     where
-      fits : (d : ℕ) → Longest (apart xs 63 62) (length xs) (p + 2) d → ((d < length xs) ⊎ (length xs ≤ d)) → Outcome (IsInstruction xs p) (InstructionFault xs p)
+      fits : (d : ℕ) → Longest (apart xs (code "?") (code ">")) (length xs) (p + 2) d → ((d < length xs) ⊎ (length xs ≤ d)) →
+          Outcome (IsInstruction xs p) (InstructionFault xs p)
       fits d l (inl w) =
-          let b = pair_here xs 63 62 d (l.stops w) in
+          let b = pair_here xs (code "?") (code ">") d (l.stops w) in
           good (d + 2) (record { close = d; first = l; closes = (b.0, (b.1, tt)); ends = refl })
-      fits d l (inr w) =
-          let within = l.within in
-          let e : d ≡ length xs = omega arith in
-          bad (Scan (End (length xs))) (instruction_ended (subst (λ q. Longest (apart xs 63 62) (length xs) (p + 2) q) e l))
+      fits d l (inr w) = bad (Scan (End (length xs))) (instruction_ended (run_out _ _ (p + 2) d l w))
 
-      go : ((d : ℕ) × Longest (apart xs 63 62) (length xs) (p + 2) d) → Outcome (IsInstruction xs p) (InstructionFault xs p)
+      go : ((d : ℕ) × Longest (apart xs (code "?") (code ">")) (length xs) (p + 2) d) → Outcome (IsInstruction xs p) (InstructionFault xs p)
       go (d, l) = fits d l (cases_lt d (length xs))
 
   some_end : (n : ℕ) → n ≤ length xs → Outcome (EndEnds xs n) (EndFault xs n)
   some_end n h = go (longest (λ i. is_white (byte xs i)) (length xs) n h)
     where
-      behind_it : (c : ℕ) → Longest (λ i. is_white (byte xs i)) (length xs) n c → c < length xs → ((byte xs c ≡ 62) ⊎ (byte xs c ≢ 62)) → Outcome (EndEnds xs n) (EndFault xs n)
+      behind_it : (c : ℕ) → Longest (λ i. is_white (byte xs i)) (length xs) n c → c < length xs →
+          ((byte xs c ≡ code ">") ⊎ (byte xs c ≢ code ">")) → Outcome (EndEnds xs n) (EndFault xs n)
       behind_it c l w (inl e) = good c (record { space = l; closes = e })
       behind_it c l w (inr ne) = bad (Scan (Byte c)) (end_byte c l w ne)
 
       fits : (c : ℕ) → Longest (λ i. is_white (byte xs i)) (length xs) n c → ((c < length xs) ⊎ (length xs ≤ c)) → Outcome (EndEnds xs n) (EndFault xs n)
-      fits c l (inl w) = behind_it c l w (cases_eq (byte xs c) 62)
-      fits c l (inr w) =
-          let within = l.within in
-          let e : c ≡ length xs = omega arith in
-          bad (Scan (End (length xs))) (end_ended (subst (λ q. Longest (λ i. is_white (byte xs i)) (length xs) n q) e l))
+      fits c l (inl w) = behind_it c l w (cases_eq (byte xs c) (code ">"))
+      fits c l (inr w) = bad (Scan (End (length xs))) (end_ended (run_out _ _ n c l w))
 
       go : ((c : ℕ) × Longest (λ i. is_white (byte xs i)) (length xs) n c) → Outcome (EndEnds xs n) (EndFault xs n)
       go (c, l) = fits c l (cases_lt c (length xs))
 
-  some_bracket : (n : ℕ) → n < length xs → (is_white (byte xs n) || byte xs n == 62) ≡ true → Outcome (TagEnds xs n) (TagFault xs n)
+  some_bracket : (n : ℕ) → n < length xs → (is_white (byte xs n) || byte xs n == code ">") ≡ true → Outcome (TagEnds xs n) (TagFault xs n)
   some_bracket n h b = go (longest (λ i. plain (byte xs i)) (length xs) n (omega arith))
     where
-      which : (c : ℕ) → Longest (λ i. plain (byte xs i)) (length xs) n c → c < length xs → ((byte xs c ≡ 60) ⊎ (byte xs c ≢ 60)) → Outcome (TagEnds xs n) (TagFault xs n)
+      which : (c : ℕ) → Longest (λ i. plain (byte xs i)) (length xs) n c → c < length xs →
+          ((byte xs c ≡ code "<") ⊎ (byte xs c ≢ code "<")) → Outcome (TagEnds xs n) (TagFault xs n)
       which c l w (inl e) = bad (Scan (Byte c)) (bracket_opened c b l e)
       which c l w (inr ne) = good c (bracket_tag xs n c b l w ne)
 
       fits : (c : ℕ) → Longest (λ i. plain (byte xs i)) (length xs) n c → ((c < length xs) ⊎ (length xs ≤ c)) → Outcome (TagEnds xs n) (TagFault xs n)
-      fits c l (inl w) = which c l w (cases_eq (byte xs c) 60)
-      fits c l (inr w) =
-          let within = l.within in
-          let e : c ≡ length xs = omega arith in
-          bad (Scan (End (length xs))) (unclosed b (subst (λ q. Longest (λ i. plain (byte xs i)) (length xs) n q) e l))
+      fits c l (inl w) = which c l w (cases_eq (byte xs c) (code "<"))
+      fits c l (inr w) = bad (Scan (End (length xs))) (unclosed b (run_out _ _ n c l w))
 
       go : ((c : ℕ) × Longest (λ i. plain (byte xs i)) (length xs) n c) → Outcome (TagEnds xs n) (TagFault xs n)
       go (c, l) = fits c l (cases_lt c (length xs))
@@ -123,26 +116,28 @@ module _ (xs : List ℕ) where
   some_tag : (n : ℕ) → Outcome (TagEnds xs n) (TagFault xs n)
   some_tag n = go (cases_lt n (length xs))
     where
-      after_slash : byte xs n ≡ 47 → n + 1 < length xs → ((byte xs (n + 1) ≡ 62) ⊎ (byte xs (n + 1) ≢ 62)) → Outcome (TagEnds xs n) (TagFault xs n)
+      after_slash : byte xs n ≡ code "/" → n + 1 < length xs → ((byte xs (n + 1) ≡ code ">") ⊎ (byte xs (n + 1) ≢ code ">")) → Outcome (TagEnds xs n) (TagFault xs n)
       after_slash s w (inl e) = good (n + 1) (slash_tag xs n s w e)
       after_slash s w (inr ne) = bad (Scan (Byte (n + 1))) (slash_byte s w ne)
 
-      slash : byte xs n ≡ 47 → ((n + 1 < length xs) ⊎ (length xs ≤ n + 1)) → Outcome (TagEnds xs n) (TagFault xs n)
-      slash s (inl w) = after_slash s w (cases_eq (byte xs (n + 1)) 62)
+      slash : byte xs n ≡ code "/" → ((n + 1 < length xs) ⊎ (length xs ≤ n + 1)) → Outcome (TagEnds xs n) (TagFault xs n)
+      slash s (inl w) = after_slash s w (cases_eq (byte xs (n + 1)) (code ">"))
       slash s (inr w) = bad (Scan (End (length xs))) (slash_ended s w)
 
-      other : n < length xs → (byte xs n ≢ 47) → (((is_white (byte xs n) || byte xs n == 62) ≡ true) ⊎ ((is_white (byte xs n) || byte xs n == 62) ≡ false)) → Outcome (TagEnds xs n) (TagFault xs n)
+      other : n < length xs → (byte xs n ≢ code "/") →
+          (((is_white (byte xs n) || byte xs n == code ">") ≡ true) ⊎ ((is_white (byte xs n) || byte xs n == code ">") ≡ false)) →
+          Outcome (TagEnds xs n) (TagFault xs n)
       other w s (inl b) = some_bracket n w b
       other w s (inr b) =
-          let h = or_parts (is_white (byte xs n)) (byte xs n == 62) b in
-          bad (Scan (Byte n)) (tag_byte w (or_from _ _ h.0 (or_from _ _ (ne_eqb _ 47 s) h.1)))
+          let h = or_parts (is_white (byte xs n)) (byte xs n == code ">") b in
+          bad (Scan (Byte n)) (tag_byte w (or_from _ _ h.0 (or_from _ _ (ne_eqb _ (code "/") s) h.1)))
 
-      by_slash : n < length xs → ((byte xs n ≡ 47) ⊎ (byte xs n ≢ 47)) → Outcome (TagEnds xs n) (TagFault xs n)
+      by_slash : n < length xs → ((byte xs n ≡ code "/") ⊎ (byte xs n ≢ code "/")) → Outcome (TagEnds xs n) (TagFault xs n)
       by_slash w (inl s) = slash s (cases_lt (n + 1) (length xs))
-      by_slash w (inr s) = other w s (cases_Bool (is_white (byte xs n) || byte xs n == 62))
+      by_slash w (inr s) = other w s (cases_Bool (is_white (byte xs n) || byte xs n == code ">"))
 
       go : ((n < length xs) ⊎ (length xs ≤ n)) → Outcome (TagEnds xs n) (TagFault xs n)
-      go (inl w) = by_slash w (cases_eq (byte xs n) 47)
+      go (inl w) = by_slash w (cases_eq (byte xs n) (code "/"))
       go (inr w) = bad (Scan (End (length xs))) (tag_ended w)
 
 -- what is found at a place, by the markup that begins there
@@ -203,14 +198,15 @@ module _ (xs : List ℕ) (p : ℕ) (names : List (List ℕ)) (rooted : Bool) whe
       tag r n s (good c d) =
           let l = s.0.ends.late in
           let m = d.rest.late in
-          enter n (c + 1) (byte xs (c - 1) == 47) (omega arith) (start r (record { name = s; close = c; tag = d; ends = refl; slash = refl }))
+          enter n (c + 1) (byte xs (c - 1) == code "/") (omega arith) (start r (record { name = s; close = c; tag = d; ends = refl; slash = refl }))
       tag r n s (bad f d) = fault f (start_rested n r s d)
 
       named : Room names rooted → Outcome (Spelled xs (p + 1)) (NameFault xs (p + 1)) → Next xs p names rooted StartTag
       named r (good n s) = tag r n s (some_tag xs n)
       named r (bad f d) = fault f (start_named r d)
 
-      go : ((names ≡ []) ⊎ (names ≢ [])) → ((rooted ≡ true) ⊎ (rooted ≡ false)) → ((length names < depth_limit) ⊎ (depth_limit ≤ length names)) → Next xs p names rooted StartTag
+      go : ((names ≡ []) ⊎ (names ≢ [])) → ((rooted ≡ true) ⊎ (rooted ≡ false)) → ((length names < depth_limit) ⊎ (depth_limit ≤ length names)) →
+          Next xs p names rooted StartTag
       go (inl e) (inl r) d = fault (Scan (Byte p)) (second (omega arith) e r)
       go (inl e) (inr r) (inl f) = named (record { alone = λ _. r; few = f }) (some_name xs (p + 1))
       go (inl e) (inr r) (inr d) = fault (Deep p) (deep (omega arith) d)
@@ -246,12 +242,17 @@ module _ (xs : List ℕ) (p : ℕ) (names : List (List ℕ)) (rooted : Bool) whe
   at_kind Cut e = fault (Scan (End (length xs))) cut
   at_kind Stray e = fault (Scan (Byte (p + 1))) stray
 
-none_open : (xs : List ℕ) (p : ℕ) (rooted : Bool) (k : Markup) (q : ℕ) → Finds xs p [] rooted k (closes q) → ⊥
-none_open xs p rooted k q (end_tag i d) = i
+-- where an element is closed, one is open
+pub open_found : (xs : List ℕ) (p : ℕ) (names : List (List ℕ)) (rooted : Bool) (k : Markup) (q : ℕ) →
+    Finds xs p names rooted k (closes q) → 0 < length names
+open_found xs p [] rooted k q (end_tag i d) = absurd i
+open_found xs p (n ∷ ns) rooted k q d = omega arith
 
-reading_end : (xs : List ℕ) (p : ℕ) (names : List (List ℕ)) (rooted : Bool) → markup (drop p xs) ≡ Nothing → Next xs p names rooted Nothing → Meaning xs p names rooted
+reading_end : (xs : List ℕ) (p : ℕ) (names : List (List ℕ)) (rooted : Bool) →
+    markup (drop p xs) ≡ Nothing → Next xs p names rooted Nothing → Meaning xs p names rooted
 reading_end xs p names rooted e (stop d) = record { events = []; ending = None; reads = done (subst (λ k. Finds xs p names rooted k finishes) (sym e) d) }
-reading_end xs p names rooted e (fault f d) = record { events = []; ending = Some f; reads = refused f (subst (λ k. Finds xs p names rooted k (refuses (number f) (place f))) (sym e) d) }
+reading_end xs p names rooted e (fault f d) =
+    record { events = []; ending = Some f; reads = refused f (subst (λ k. Finds xs p names rooted k (refuses (number f) (place f))) (sym e) d) }
 reading_end xs p names rooted e (skip q h d) = elim d [ ]
 reading_end xs p names rooted e (enter n q b h d) = elim d [ ]
 reading_end xs p names rooted e (leave q h d) = elim d [ ]
@@ -262,11 +263,13 @@ reading_by xs zero p names rooted h =
     reading_end xs p names rooted e (at_end xs p names rooted)
 reading_by xs (suc fuel) p names rooted h = go (λ q ns r l. reading_by xs fuel q ns r l) (at_kind xs p names rooted (markup (drop p xs)) refl)
   where
-    left : (q : ℕ) (ns : List (List ℕ)) → Finds xs p ns rooted (markup (drop p xs)) (closes q) → ((ms : List (List ℕ)) → Meaning xs q ms rooted) → Meaning xs p ns rooted
-    left q [] d m = absurd (none_open xs p rooted _ q d)
+    left : (q : ℕ) (ns : List (List ℕ)) → Finds xs p ns rooted (markup (drop p xs)) (closes q) →
+        ((ms : List (List ℕ)) → Meaning xs q ms rooted) → Meaning xs p ns rooted
+    left q [] d m = let h = open_found xs p [] rooted _ q d in absurd (omega arith)
     left q (w ∷ ns) d m = let r = m ns in record { events = Close ∷ r.events; ending = r.ending; reads = closed d r.reads }
 
-    go : ((q : ℕ) (ns : List (List ℕ)) (r : Bool) → length xs ≤ q + fuel → Meaning xs q ns r) → Next xs p names rooted (markup (drop p xs)) → Meaning xs p names rooted
+    go : ((q : ℕ) (ns : List (List ℕ)) (r : Bool) → length xs ≤ q + fuel → Meaning xs q ns r) →
+        Next xs p names rooted (markup (drop p xs)) → Meaning xs p names rooted
     go on (stop d) = record { events = []; ending = None; reads = done d }
     go on (fault f d) = record { events = []; ending = Some f; reads = refused f d }
     go on (skip q l d) = let r = on q names rooted (omega arith) in record { events = r.events; ending = r.ending; reads = skipped d r.reads }

@@ -1,8 +1,8 @@
-use Rattle.std.proofs.Common.{◌+◌, false, [], length, refl}
+use Rattle.std.proofs.Common.{◌+◌, false, [], length, refl, sym, ap, ◌∙◌}
 use Rattle.std.proofs.lemmas.Result.{err_from_is_err_and}
 use Rattle.std.proofs.lemmas.Bool.{both_ways}
-use Rattle.xml.specs.Reading.Finds.{start}
 use Rattle.xml.specs.FaultLaws.{early, end_named, wrong_name}
+use Rattle.xml.specs.Inner.{stop_markup}
 use Rattle.xml.specs.declared.markup.Stop.TheVariants.{StartTag, EndTag, End as at_end}
 use Rattle.xml.specs.declared.fault.ScanFault.TheVariants.{End}
 use Rattle.xml.specs.declared.fault.XmlFault.TheVariants.{Scan, WrongName}
@@ -39,8 +39,8 @@ returns-in_ok-start_tag-in-StartTag c =
     let q = c.skip.new.place in
     let f = c.in_ok-stop.ensures.found in
     let h = c.in_ok-start_tag-in-StartTag.ensures in
-    root_named xs _ q h.stop _ _ _ h.name c.skip.ensures.passes
-    (found_at xs q [] false _ StartTag _ c.in-StartTag.is f (start root_room (record { name = h.spelled; close = h.close; tag = h.rest; ends = h.ends; slash = h.slash })))
+    root_named xs _ q h.stop _ _ _ h.name c.skip.ensures.passes (sym f ∙ ap stop_markup c.in-StartTag.is)
+    (record { name = h.spelled; close = h.close; tag = h.rest; ends = h.ends; slash = h.slash })
 
 pub returns-in_ok-name_end-in-EndTag : goal.returns-in_ok-name_end-in-EndTag
 returns-in_ok-name_end-in-EndTag c =

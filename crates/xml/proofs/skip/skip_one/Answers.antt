@@ -1,8 +1,8 @@
-use Rattle.std.proofs.Common.{◌≡◌, ℕ, ◌+◌, sym, inl, inr, arith}
+use Rattle.std.proofs.Common.{◌≡◌, ℕ, sym, inl, inr, arith}
 use Rattle.std.proofs.lemmas.Result.{err_from_is_err_and}
 use Rattle.xml.specs.Shapes.{reaches}
 use Rattle.xml.specs.declared.markup.Markup.TheVariants.{Text}
-use Rattle.xml.specs.ScanLaws.{standing}
+use Rattle.xml.specs.ScanLaws.{comment_within, instruction_within}
 use Rattle.xml.proofs.Between.{text_by, text_no, comment_by, comment_no, instruction_by, instruction_no, declaration_no, cut_no, stray_no}
 use Rattle.xml.proofs.skip.skip_one.Goals as goal
 use Rattle.xml.proofs.skip.skip_one.Goals.{then-inside, else-inside}
@@ -41,8 +41,7 @@ returns-in_ok-comment_end-in-Comment c =
     let d = c.in_ok-comment_end-in-Comment.ensures in
     let e = d.ends in
     let late = d.first.late in
-    let l = standing xs (d.dashes + 1 + 1) 62 d.closes.1.1.0 (omega arith) in
-    (comment_by _ _ _ _ c.in-Comment.ensures d, omega arith, omega arith)
+    (comment_by _ _ _ _ c.in-Comment.ensures d, omega arith, comment_within xs _ _ d)
 
 pub returns-in_ok-instruction_end-in-Instruction : goal.returns-in_ok-instruction_end-in-Instruction
 returns-in_ok-instruction_end-in-Instruction c =
@@ -50,8 +49,7 @@ returns-in_ok-instruction_end-in-Instruction c =
     let d = c.in_ok-instruction_end-in-Instruction.ensures in
     let e = d.ends in
     let late = d.first.late in
-    let l = standing xs (d.close + 1) 62 d.closes.1.0 (omega arith) in
-    (instruction_by _ _ _ _ c.in-Instruction.ensures d, omega arith, omega arith)
+    (instruction_by _ _ _ _ c.in-Instruction.ensures d, omega arith, instruction_within xs _ _ d)
 
 pub returns-in-Cut : goal.returns-in-Cut
 returns-in-Cut c = rw c.into-in-Cut.ensures (cut_no _ _ _ c.in-Cut.ensures)

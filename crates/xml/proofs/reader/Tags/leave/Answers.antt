@@ -1,4 +1,5 @@
 use Rattle.std.proofs.Common.{◌+◌, ◌<◌, length, sym, refl, arith}
+use Prim.Native.Char.{code}
 use Rattle.std.proofs.lemmas.Result.{err_from_is_err_and}
 use Rattle.std.proofs.lemmas.Bool.{both_ways}
 use Rattle.xml.specs.Means.{tags_names}
@@ -7,8 +8,9 @@ use Rattle.xml.specs.declared.markup.Markup.TheVariants.{EndTag}
 use Rattle.xml.specs.declared.fault.XmlFault.TheVariants.{Scan, WrongName}
 use Rattle.xml.specs.declared.tags.Tag.TheVariants.{Close}
 use Rattle.xml.specs.ScanLaws.{standing}
+use Rattle.xml.specs.Total.{open_found}
 use Rattle.xml.proofs.Between.{found}
-use Rattle.xml.proofs.Steps.{end_at, fault_refuses, moves_give, closes_moves, pop_names, length_names, open_found, begun_open}
+use Rattle.xml.proofs.Steps.{end_at, fault_refuses, moves_give, closes_moves, pop_names, length_names, begun_open}
 use Rattle.xml.proofs.reader.Tags.leave.Goals as goal
 
 pub returns-in_err-end : goal.returns-in_err-end
@@ -39,7 +41,7 @@ invariant_of-self c =
     let n = c.in_ok-end.ensures in
     let t = c.in_ok-close.ensures n.0.ends.within in
     let f = end_at s.input.now s.place (tags_names s) s.rooted c.in_ok-end.end q c.requires (c.if-not-is_innermost.ensures.0 refl) n t in
-    let l = standing s.input.now q 62 t.closes (omega arith) in
+    let l = standing s.input.now q (code ">") t.closes (omega arith) in
     record {
       within = omega arith;
       fresh = λ r. absurd (both_ways _ r (begun_open s (open_found s.input.now s.place (tags_names s) s.rooted _ (q + 1) f)));
@@ -51,7 +53,9 @@ returns c =
     let xs = s.input.now in
     let q = c.in_ok-close.close in
     let n = c.in_ok-end.ensures in
-    let f = end_at xs s.place (tags_names s) s.rooted c.in_ok-end.end q c.requires (c.if-not-is_innermost.ensures.0 refl) n (c.in_ok-close.ensures n.0.ends.within) in
+    let t = c.in_ok-close.ensures n.0.ends.within in
+    let f = end_at xs s.place (tags_names s) s.rooted c.in_ok-end.end q c.requires (c.if-not-is_innermost.ensures.0 refl) n t in
     let deep : 0 < length (tags_names s) = open_found xs s.place (tags_names s) s.rooted _ (q + 1) f in
-    let names = pop_names s.opened.items c.pop.new.self.items c.pop.result c.pop.ensures.items (c.pop.ensures.variant.1 (omega (arith, length_names s.opened.items))) in
+    let popped = c.pop.ensures.variant.1 (omega (arith, length_names s.opened.items)) in
+    let names = pop_names s.opened.items c.pop.new.self.items c.pop.result c.pop.ensures.items popped in
     moves_give s _ Close (begun_open s deep) (closes_moves xs s.place (tags_names s) s.rooted (q + 1) names.0 _ names.1 f)
