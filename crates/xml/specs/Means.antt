@@ -33,20 +33,21 @@ abbrev pub pending : Bool → List (Event (List ℕ)) → List (Event (List ℕ)
 pending true es = Close ∷ es
 pending false es = es
 
--- the events still to come, with the bytes of names for labels
+-- the events still to come, with the bytes of names in place of labels
 abbrev pub xml_spelled : Xml → List (Event (List ℕ))
 xml_spelled s = pending s.closing (tags_meaning s.tags).events
 
--- the same with labels
+-- an event with the name of these bytes for a label
 abbrev pub labelled : Event (List ℕ) → Event Name
 labelled (Open w) = Open (name_of w)
 labelled Close = Close
 
--- an event with the bytes of its label
+-- and back: with the bytes of its label
 abbrev pub spelled : Event Name → Event (List ℕ)
 spelled (Open l) = Open (bytes_of l)
 spelled Close = Close
 
+-- the events still to come
 abbrev pub xml_events : Xml → List (Event Name)
 xml_events s = map labelled (xml_spelled s)
 

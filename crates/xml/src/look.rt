@@ -1,5 +1,5 @@
 //! Looking ahead at the root's name.
-ghost use Rattle.std.specs.Prelude.{◌≡◌, false, MatchResult};
+ghost use Rattle.std.specs.Prelude.{◌≡◌, MatchResult};
 ghost use Rattle.xml.specs.Means.{Looks, NoLook, Kept, Unmoved};
 ghost use Rattle.xml.specs.Inner.{RootNamed, RootFails};
 
