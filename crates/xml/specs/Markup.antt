@@ -24,18 +24,18 @@ abbrev pub markup : List ℕ → Markup
 markup [] = Nothing
 markup (b ∷ bs) = cond (b == code "<") (behind bs) Text
 
--- The rest of a comment from b on: the first `--`, `>`
+-- The rest of a comment from b on: up to the first `--`, behind which `>` stands
 pub record CommentEnds (xs : List ℕ) (b q : ℕ) : Type 0 where
   pub dashes : ℕ
   pub first : Longest (apart xs (code "-") (code "-")) (length xs) b dashes
   pub closes : Stands xs (codes "-->") dashes
   pub ends : q ≡ dashes + 3
 
--- A comment: `<!--` and the rest
+-- A comment from p to q, where `<!--` stands at p
 abbrev pub IsComment : List ℕ → ℕ → ℕ → Type 0
 IsComment xs p q = CommentEnds xs (p + 4) q
 
--- An instruction: `<?`, the first `?>` after it
+-- An instruction from p to q, where `<?` stands at p: it ends behind the first `?>` after that
 pub record IsInstruction (xs : List ℕ) (p q : ℕ) : Type 0 where
   pub close : ℕ
   pub first : Longest (apart xs (code "?") (code ">")) (length xs) (p + 2) close
@@ -50,7 +50,7 @@ pub record TagEnds (xs : List ℕ) (n c : ℕ) : Type 0 where
   pub rest : Longest (λ i. plain (byte xs i)) (length xs) n c
   pub closes : byte xs c ≡ code ">"
 
--- A start tag with the name from p + 1 to n; it is empty where `/` stands right before its `>`
+-- A start tag from p to q, where `<` stands at p, with the name from p + 1 to n. The element is empty where `/` stands right before the `>`.
 pub record IsStart (xs : List ℕ) (p n q : ℕ) (empty : Bool) : Type 0 where
   pub name : Spelled xs (p + 1) n
   pub close : ℕ
@@ -58,12 +58,12 @@ pub record IsStart (xs : List ℕ) (p n q : ℕ) (empty : Bool) : Type 0 where
   pub ends : q ≡ close + 1
   pub slash : empty ≡ (byte xs (close - 1) == code "/")
 
--- The rest of an end tag: white space if any, `>`
+-- The rest of an end tag whose name ends at n: white space if any, and `>` at c
 pub record EndEnds (xs : List ℕ) (n c : ℕ) : Type 0 where
   pub space : Longest (λ i. is_white (byte xs i)) (length xs) n c
   pub closes : byte xs c ≡ code ">"
 
--- An end tag with the name from p + 2 to n
+-- An end tag from p to q, where `</` stands at p, with the name from p + 2 to n
 pub record IsEnd (xs : List ℕ) (p n q : ℕ) : Type 0 where
   pub name : Spelled xs (p + 2) n
   pub close : ℕ
@@ -76,16 +76,16 @@ pub data NameFault (xs : List ℕ) (p : ℕ) : ℕ → ℕ → Type 0 where
   no_start : p < length xs → starts_name (byte xs p) ≡ false → NameFault xs p 30 p
   long : (q : ℕ) → Named xs p q → p + name_limit < q → NameFault xs p 32 p
 
--- with the rest of a comment from b on
+-- What is wrong with the rest of a comment from b on
 pub data CommentFault (xs : List ℕ) (b : ℕ) : ℕ → ℕ → Type 0 where
   ended : (d : ℕ) → Longest (apart xs (code "-") (code "-")) (length xs) b d → length xs ≤ d + 2 → CommentFault xs b 31 (length xs)
   byte_behind : (d : ℕ) → Longest (apart xs (code "-") (code "-")) (length xs) b d → d + 2 < length xs → (byte xs (d + 2) ≢ code ">") → CommentFault xs b 30 (d + 2)
 
--- with an instruction at p
+-- What is wrong with an instruction at p
 pub data InstructionFault (xs : List ℕ) (p : ℕ) : ℕ → ℕ → Type 0 where
   ended : Longest (apart xs (code "?") (code ">")) (length xs) (p + 2) (length xs) → InstructionFault xs p 31 (length xs)
 
--- with the rest of a start tag behind its name, which ends at n
+-- What is wrong with the rest of a start tag whose name ends at n
 pub data TagFault (xs : List ℕ) (n : ℕ) : ℕ → ℕ → Type 0 where
   ended : length xs ≤ n → TagFault xs n 31 (length xs)
   byte_behind : n < length xs → (is_white (byte xs n) || (byte xs n == code "/" || byte xs n == code ">")) ≡ false → TagFault xs n 30 n
@@ -95,7 +95,7 @@ pub data TagFault (xs : List ℕ) (n : ℕ) : ℕ → ℕ → Type 0 where
   opened : (c : ℕ) → (is_white (byte xs n) || byte xs n == code ">") ≡ true → Longest (λ i. plain (byte xs i)) (length xs) n c →
       byte xs c ≡ code "<" → TagFault xs n 30 c
 
--- with the rest of an end tag
+-- What is wrong with the rest of an end tag whose name ends at n
 pub data EndFault (xs : List ℕ) (n : ℕ) : ℕ → ℕ → Type 0 where
   ended : Longest (λ i. is_white (byte xs i)) (length xs) n (length xs) → EndFault xs n 31 (length xs)
   byte_behind : (c : ℕ) → Longest (λ i. is_white (byte xs i)) (length xs) n c → c < length xs → (byte xs c ≢ code ">") → EndFault xs n 30 c

@@ -6,5 +6,5 @@ mod markup;
 pub mod reader;
 mod scan;
 mod skip;
-pub mod source;
+mod source;
 mod tags;
