@@ -61,12 +61,12 @@ listed {L} (r ∷ rs) n l = by_test (listed rs (n + 1) (suc r.depth)) (ltb l r.d
     by_test go true t = rw t (refused n (before_of l) (depths l) r rs (not_allowed l r.depth (ltb-true l r.depth t)))
     by_test go false t =
         let le = ltb-false l r.depth t in
-        let on : Listing (n + 1) (Some r.depth) (r.depth ∷ shallower r.depth (depths l)) rs (events_from (suc r.depth) rs) (ending_from (n + 1) (suc r.depth) rs) =
-        rw (shallower_depths r.depth l le) go in
-        let h : Listing n (before_of l) (depths l) (r ∷ rs) (closings (deeper r.depth (depths l)) ++ Open r.label ∷ events_from (suc r.depth) rs) (ending_from (n + 1) (suc r.depth) rs) =
+        let es = events_from (suc r.depth) rs in
+        let end = ending_from (n + 1) (suc r.depth) rs in
+        let on : Listing (n + 1) (Some r.depth) (r.depth ∷ shallower r.depth (depths l)) rs es end = rw (shallower_depths r.depth l le) go in
+        let h : Listing n (before_of l) (depths l) (r ∷ rs) (closings (deeper r.depth (depths l)) ++ Open r.label ∷ es) end =
         opened n (before_of l) (depths l) r rs _ _ (allowed l r.depth le) on in
-        let k : Listing n (before_of l) (depths l) (r ∷ rs) (closings (l - r.depth) ++ Open r.label ∷ events_from (suc r.depth) rs) (ending_from (n + 1) (suc r.depth) rs) =
-        rw (deeper_depths r.depth l) at h in
+        let k : Listing n (before_of l) (depths l) (r ∷ rs) (closings (l - r.depth) ++ Open r.label ∷ es) end = rw (deeper_depths r.depth l) at h in
         rw (t, add-one) k
 
 -- records have one meaning

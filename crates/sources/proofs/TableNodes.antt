@@ -26,7 +26,8 @@ Fits level p before = (d : ℕ) → d ≤ level → innermost (drop (level - d) 
 none_before : Fits 0 [] []
 none_before d h = let e : 0 - d ≡ 0 = omega arith in rw e refl
 
-one_more : (level d n : ℕ) (p : List ℕ) (before : List (ℕ × ℕ)) → d ≤ level → Fits level p before → Fits (d + 1) (n ∷ drop (level - d) p) ((n, d) ∷ before)
+one_more : (level d n : ℕ) (p : List ℕ) (before : List (ℕ × ℕ)) → d ≤ level → Fits level p before →
+    Fits (d + 1) (n ∷ drop (level - d) p) ((n, d) ∷ before)
 one_more level d n p before h f e g = go (cases_lt d e)
   where
     go : ((d < e) ⊎ (e ≤ d)) → innermost (drop (d + 1 - e) (n ∷ drop (level - d) p)) ≡ above e ((n, d) ∷ before)
@@ -41,8 +42,9 @@ listed : {L : Type 0} (rs : List (Record L)) (n level : ℕ) (p : List ℕ) (bef
 listed [] n level p before f e = shut_all n level p
 listed {L} (r ∷ rs) n level p before f e = by_test (ltb level r.depth) refl (λ q b g h. listed rs (suc n) (r.depth + 1) q b g h)
   where
-    by_test : (b : Bool) → ltb level r.depth ≡ b → ((q : List ℕ) (b : List (ℕ × ℕ)) → Fits (r.depth + 1) q b → ending_from (suc n) (r.depth + 1) rs ≡ None →
-        nodes_from (suc n) q (events_from (r.depth + 1) rs) ≡ record_nodes (suc n) b rs) →
+    by_test : (b : Bool) → ltb level r.depth ≡ b →
+        ((q : List ℕ) (b : List (ℕ × ℕ)) → Fits (r.depth + 1) q b → ending_from (suc n) (r.depth + 1) rs ≡ None →
+            nodes_from (suc n) q (events_from (r.depth + 1) rs) ≡ record_nodes (suc n) b rs) →
         nodes_from n p (events_from level (r ∷ rs)) ≡ record_nodes n before (r ∷ rs)
     by_test true t go = let g : Some (WrongDepth n) ≡ None = rw t at e in let z : ◌≡◌ {A = ℕ} 0 1 = cc in absurd (omega arith)
     by_test false t go =

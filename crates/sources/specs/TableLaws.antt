@@ -24,7 +24,8 @@ closed : {L : Type 0} (rs : List (Record L)) (n k level : ℕ) → k ≤ level �
 closed {L} [] n k level h e = closed_closings L k level h
 closed {L} (r ∷ rs) n k level h e = by_test (λ k₁ l₁ h₁ e₁. closed rs (n + 1) k₁ l₁ h₁ e₁) (ltb level r.depth) refl
   where
-    by_test : ((k₁ l₁ : ℕ) → k₁ ≤ l₁ → ending_from (n + 1) l₁ rs ≡ None → ClosedFrom k₁ (events_from l₁ rs)) → (b : Bool) → ltb level r.depth ≡ b → ClosedFrom k (events_from level (r ∷ rs))
+    by_test : ((k₁ l₁ : ℕ) → k₁ ≤ l₁ → ending_from (n + 1) l₁ rs ≡ None → ClosedFrom k₁ (events_from l₁ rs)) →
+        (b : Bool) → ltb level r.depth ≡ b → ClosedFrom k (events_from level (r ∷ rs))
     by_test go true t =
         let f : Some (WrongDepth n) ≡ None = rw t at e in
         let z : ◌≡◌ {A = ℕ} 0 1 = cc in
