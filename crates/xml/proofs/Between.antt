@@ -75,7 +75,7 @@ module _ (xs : List ℕ) (inside : Bool) (p : ℕ) where
   pub instruction_by : (q : ℕ) → Instruction ≡ markup (drop p xs) → IsInstruction xs p q → GoesBy xs inside p q
   instruction_by q e d names rooted i = found xs p names rooted Instruction _ e (instruction d)
 
-  pub instruction_no : (f : ScanFault) → Instruction ≡ markup (drop p xs) → InstructionFault xs p (scan_number f) (scan_place f) → Refused xs inside p (Scan f)
+  pub instruction_no : (f : ScanFault) → Instruction ≡ markup (drop p xs) → InstructionFault xs (p + 2) (scan_number f) (scan_place f) → Refused xs inside p (Scan f)
   instruction_no f e d names rooted i = found xs p names rooted Instruction _ e (instruction_fault d)
 
   pub declaration_no : Declaration ≡ markup (drop p xs) → Refused xs inside p (NotComment p)

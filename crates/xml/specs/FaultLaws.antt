@@ -76,7 +76,7 @@ module _ {xs : List ℕ} {p : ℕ} {names : List (List ℕ)} {rooted : Bool} whe
       least : (j to : ℕ) → Wrong xs p names rooted Comment j to → ComesBefore k at j to
       least j to (bad_comment e) = same_fault k at j to (comment_fault_same xs p k at j to d e)
 
-  pub instruction_fault : {k at : ℕ} → InstructionFault xs p k at → Finds xs p names rooted Instruction (refuses k at)
+  pub instruction_fault : {k at : ℕ} → InstructionFault xs (p + 2) k at → Finds xs p names rooted Instruction (refuses k at)
   instruction_fault {k = k} {at = at} d = faulty (bad_instruction d) least
     where
       least : (j to : ℕ) → Wrong xs p names rooted Instruction j to → ComesBefore k at j to

@@ -35,12 +35,16 @@ pub record CommentEnds (xs : List ℕ) (b q : ℕ) : Type 0 where
 abbrev pub IsComment : List ℕ → ℕ → ℕ → Type 0
 IsComment xs p q = CommentEnds xs (p + 4) q
 
--- An instruction from p to q, where `<?` stands at p: it ends behind the first `?>` after that
-pub record IsInstruction (xs : List ℕ) (p q : ℕ) : Type 0 where
+-- The rest of an instruction from b on: up to the first `?>`
+pub record InstructionEnds (xs : List ℕ) (b q : ℕ) : Type 0 where
   pub close : ℕ
-  pub first : Longest (apart xs (code "?") (code ">")) (length xs) (p + 2) close
+  pub first : Longest (apart xs (code "?") (code ">")) (length xs) b close
   pub closes : Stands xs (codes "?>") close
   pub ends : q ≡ close + 2
+
+-- An instruction from p to q, where `<?` stands at p
+abbrev pub IsInstruction : List ℕ → ℕ → ℕ → Type 0
+IsInstruction xs p q = InstructionEnds xs (p + 2) q
 
 -- The rest of a start tag whose name ends at n: white space, `/` or `>`, and the first `>`, at c, with no `<` before it.
 -- Only `>` may follow a `/` right after the name.
@@ -81,9 +85,9 @@ pub data CommentFault (xs : List ℕ) (b : ℕ) : ℕ → ℕ → Type 0 where
   ended : (d : ℕ) → Longest (apart xs (code "-") (code "-")) (length xs) b d → length xs ≤ d + 2 → CommentFault xs b 31 (length xs)
   byte_behind : (d : ℕ) → Longest (apart xs (code "-") (code "-")) (length xs) b d → d + 2 < length xs → (byte xs (d + 2) ≢ code ">") → CommentFault xs b 30 (d + 2)
 
--- What is wrong with an instruction at p
-pub data InstructionFault (xs : List ℕ) (p : ℕ) : ℕ → ℕ → Type 0 where
-  ended : Longest (apart xs (code "?") (code ">")) (length xs) (p + 2) (length xs) → InstructionFault xs p 31 (length xs)
+-- What is wrong with the rest of an instruction from b on
+pub data InstructionFault (xs : List ℕ) (b : ℕ) : ℕ → ℕ → Type 0 where
+  ended : Longest (apart xs (code "?") (code ">")) (length xs) b (length xs) → InstructionFault xs b 31 (length xs)
 
 -- What is wrong with the rest of a start tag whose name ends at n
 pub data TagFault (xs : List ℕ) (n : ℕ) : ℕ → ℕ → Type 0 where

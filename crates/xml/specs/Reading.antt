@@ -29,7 +29,7 @@ pub data Wrong (xs : List ℕ) (p : ℕ) (names : List (List ℕ)) (rooted : Boo
   unfinished : (names ≡ [] → rooted ≢ true) → Wrong xs p names rooted Nothing 31 (length xs)
   bare_text : names ≡ [] → is_white (byte xs p) ≡ false → Wrong xs p names rooted Text 30 p
   bad_comment : {k at : ℕ} → CommentFault xs (p + 4) k at → Wrong xs p names rooted Comment k at
-  bad_instruction : {k at : ℕ} → InstructionFault xs p k at → Wrong xs p names rooted Instruction k at
+  bad_instruction : {k at : ℕ} → InstructionFault xs (p + 2) k at → Wrong xs p names rooted Instruction k at
   no_comment : Wrong xs p names rooted Declaration 34 p
   cut_short : Wrong xs p names rooted Cut 31 (length xs)
   no_markup : Wrong xs p names rooted Stray 30 (p + 1)

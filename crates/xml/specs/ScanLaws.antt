@@ -120,13 +120,13 @@ module _ (xs : List ℕ) where
   pub instruction_within : (p q : ℕ) → IsInstruction xs p q → q ≤ length xs
   instruction_within p q a = let e = a.ends in omega (arith, standing xs (a.close + 1) (code ">") a.closes.1.0 (omega arith))
 
-  pub instruction_apart : (p q k at : ℕ) → IsInstruction xs p q → InstructionFault xs p k at → ⊥
+  pub instruction_apart : (p q k at : ℕ) → IsInstruction xs p q → InstructionFault xs (p + 2) k at → ⊥
   instruction_apart p q k at a (instruction_ended l) =
       let e = longest_same _ _ (p + 2) a.close (length xs) a.first l in
       let f = a.ends in
       omega (arith, instruction_within p q a)
 
-  pub instruction_fault_same : (p k at j to : ℕ) → InstructionFault xs p k at → InstructionFault xs p j to → refuses k at ≡ refuses j to
+  pub instruction_fault_same : (p k at j to : ℕ) → InstructionFault xs (p + 2) k at → InstructionFault xs (p + 2) j to → refuses k at ≡ refuses j to
   instruction_fault_same p k at j to (instruction_ended l) (instruction_ended m) = refl
 
   pub end_same : (n q r : ℕ) → EndEnds xs n q → EndEnds xs n r → q ≡ r

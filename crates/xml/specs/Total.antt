@@ -70,17 +70,17 @@ module _ (xs : List ℕ) where
       go : ((d : ℕ) × Longest (apart xs (code "-") (code "-")) (length xs) (p + 4) d) → Outcome (IsComment xs p) (CommentFault xs (p + 4))
       go (d, l) = fits d l (cases_lt (d + 2) (length xs))
 
-  some_instruction : (p : ℕ) → p + 2 ≤ length xs → Outcome (IsInstruction xs p) (InstructionFault xs p)
+  some_instruction : (p : ℕ) → p + 2 ≤ length xs → Outcome (IsInstruction xs p) (InstructionFault xs (p + 2))
   some_instruction p h = go (longest (apart xs (code "?") (code ">")) (length xs) (p + 2) h)
     where
       fits : (d : ℕ) → Longest (apart xs (code "?") (code ">")) (length xs) (p + 2) d → ((d < length xs) ⊎ (length xs ≤ d)) →
-          Outcome (IsInstruction xs p) (InstructionFault xs p)
+          Outcome (IsInstruction xs p) (InstructionFault xs (p + 2))
       fits d l (inl w) =
           let b = pair_here xs (code "?") (code ">") d (l.stops w) in
           good (d + 2) (record { close = d; first = l; closes = (b.0, (b.1, tt)); ends = refl })
       fits d l (inr w) = bad (Scan (End (length xs))) (instruction_ended (run_out _ _ (p + 2) d l w))
 
-      go : ((d : ℕ) × Longest (apart xs (code "?") (code ">")) (length xs) (p + 2) d) → Outcome (IsInstruction xs p) (InstructionFault xs p)
+      go : ((d : ℕ) × Longest (apart xs (code "?") (code ">")) (length xs) (p + 2) d) → Outcome (IsInstruction xs p) (InstructionFault xs (p + 2))
       go (d, l) = fits d l (cases_lt d (length xs))
 
   some_end : (n : ℕ) → n ≤ length xs → Outcome (EndEnds xs n) (EndFault xs n)
@@ -187,7 +187,7 @@ module _ (xs : List ℕ) (p : ℕ) (names : List (List ℕ)) (rooted : Bool) whe
   at_instruction : p + 2 ≤ length xs → Next xs p names rooted Instruction
   at_instruction h = go (some_instruction xs p h)
     where
-      go : Outcome (IsInstruction xs p) (InstructionFault xs p) → Next xs p names rooted Instruction
+      go : Outcome (IsInstruction xs p) (InstructionFault xs (p + 2)) → Next xs p names rooted Instruction
       go (good q d) = let e = d.ends in let l = d.first.late in skip q (omega arith) (instruction d)
       go (bad f d) = fault f (instruction_fault d)
 

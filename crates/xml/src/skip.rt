@@ -72,7 +72,7 @@ fn comment_end(input: &[u8], at: usize) -> Result<usize, ScanFault>
 // The end of the instruction that begins at the place.
 fn instruction_end(input: &[u8], at: usize) -> Result<usize, ScanFault>
     requires { markup (drop at input.now) ≡ Instruction }
-    ensures { MatchResult result (IsInstruction input.now at) (Told (InstructionFault input.now at)) }
+    ensures { MatchResult result (IsInstruction input.now at) (Told (InstructionFault input.now (at + 2))) }
 {
     let close = pair_place(input, at + 2, b"?>");
     if close >= input.len() {
