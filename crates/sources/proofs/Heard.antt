@@ -19,3 +19,7 @@ rest_is (e ∷ es) = refl
 
 pub rest_drop : {L : Type 0} (es : List (Event L)) (k : ℕ) → rest (drop k es) ≡ drop (k + 1) es
 rest_drop es k = rest_is (drop k es) ∙ drop-drop 1 k es
+
+-- so many and no fewer
+pub heard_out : {L : Type 0} (es fs : List (Event L)) (k n : ℕ) → fs ≡ drop k es → k ≤ n → n ≤ k → fs ≡ drop n es
+heard_out es fs k n e h g = let s : k ≡ n = omega arith in e ∙ ap (λ i. drop i es) s

@@ -44,7 +44,7 @@ listed {L} (r ∷ rs) n level p before f e = by_test (ltb level r.depth) refl (�
   where
     by_test : (b : Bool) → ltb level r.depth ≡ b →
         ((q : List ℕ) (b : List (ℕ × ℕ)) → Fits (r.depth + 1) q b → ending_from (suc n) (r.depth + 1) rs ≡ None →
-            nodes_from (suc n) q (events_from (r.depth + 1) rs) ≡ record_nodes (suc n) b rs) →
+        nodes_from (suc n) q (events_from (r.depth + 1) rs) ≡ record_nodes (suc n) b rs) →
         nodes_from n p (events_from level (r ∷ rs)) ≡ record_nodes n before (r ∷ rs)
     by_test true t go = let g : Some (WrongDepth n) ≡ None = rw t at e in let z : ◌≡◌ {A = ℕ} 0 1 = cc in absurd (omega arith)
     by_test false t go =

@@ -4,6 +4,7 @@ ghost use Rattle.std.specs.Prelude.{◌≡◌, ◌<◌, ◌≤◌, min, length, 
 use crate::source::Source;
 
 /// How many events come, and the fault behind them, if one comes. No more events are heard than asked for.
+#[tactic(auto, using(crate::proofs::Heard::heard_out))]
 pub fn drained<S: Source>(source: &mut S, most: usize) -> (usize, Option<S::Fault>)
     ensures count { result.0 ≡ min most (length (S.events source.old)) }
     ensures told { length (S.events source.old) < most → result.1 ≡ S.ending source.old }

@@ -1,4 +1,4 @@
-use Rattle.std.proofs.Common.{◌≡◌, drop, Ok, refl, sym, ap, ◌∙◌, arith}
+use Rattle.std.proofs.Common.{Ok, refl, sym, ap, ◌∙◌, arith}
 use Rattle.sources.specs.Events.{rest}
 use Rattle.sources.proofs.Answered.{from_some, from_none, from_err}
 use Rattle.sources.proofs.Heard.{all_heard, one_left, rest_drop}
@@ -42,8 +42,3 @@ loop-count-preserved g c =
       c.next.ensures.others ∙ ap rest i.1 ∙ rest_drop es c.loop-count.count,
       c.next.ensures.ending ∙ i.2,
     )
-
-pub returns-clause-others : goal.returns-clause-others
-returns-clause-others g c =
-    let all : c.loop-count.count ≡ c.args.most = omega arith in
-    c.loop-count.invariant.1 ∙ ap (λ k. drop k (g.S.Source.events c.args.source.now)) all
