@@ -4,3 +4,4 @@ pub mod TableSteps
 pub mod TableListed
 pub mod TableNodes
 pub mod ForestNodes
+pub mod NodeLaws
