@@ -14,6 +14,7 @@ pub mod OpenSim
 pub mod CloseSim
 pub mod TakeSim
 pub mod RunLaws
+pub mod LabelledCalls
 pub mod MadeCallLaws
 pub mod ReplayLaws
 pub mod OccursTest

@@ -10,16 +10,14 @@ use Rattle.runs.specs.declared.call.Call.{Call}
 use Rattle.runs.specs.declared.call.Call.TheVariants.{Open, Close, Drop, Take}
 use Rattle.runs.specs.declared.call.Answer.{Answer}
 use Rattle.runs.specs.declared.call.Answer.TheVariants.{Opened, Closed, Dropped, Taken, Refused}
-use Rattle.rules.specs.Embedding.{Meets}
-use Rattle.runs.specs.Bits.{Has, SetOf}
 use Rattle.runs.specs.Refusals.{number}
 use Rattle.runs.specs.Answers.{Told, told, told_by, count_taken, opened, closed, dropped, taken, refused}
 use Rattle.runs.specs.Model.{Model, Does, taking}
 use Rattle.runs.specs.Stands.{SetModel, Stands}
-use Rattle.runs.specs.Calls.{nodes_of, Moves, Opening, Steps, Taking}
-use Rattle.runs.specs.Journal.{Filled, meets, StandsAt, Carried}
+use Rattle.runs.specs.Calls.{nodes_of, Opening, Steps, Taking}
+use Rattle.runs.specs.Journal.{Filled, meets, StandsAt}
 use Rattle.runs.specs.MadeCall.{Made}
-use Rattle.runs.proofs.CarriedLaws.{lift_open, lift_close, lift_drop, taking_carried}
+use Rattle.runs.proofs.LabelledCalls.{Played, played_open, played_close, played_drop, taken_count, taken_stands, hands_count, taken_filled}
 use Rattle.runs.proofs.TakeSim.{taken_min}
 
 -- an answer that tells of no taking moved nothing
@@ -54,13 +52,6 @@ pub untaken_drop : (r : Result (Unit {0}) Refusal) (n : ℕ) → taken n ≡ tol
 untaken_drop (Ok u) n e = not_dropped n e
 untaken_drop (Err k) n e = not_refused n (number k) e
 
--- what a taking does
-took : (rule : List RuleNode) (t : SetModel) (k : ℕ) {r : Told} {t' : SetModel} → Does rule Has t (Take k) r t' → (r ≡ taken (min (length t.waiting) k)) × (t' ≡ taking t k)
-took rule t k (Does.takes j) = (refl, refl)
-
-taken_inj : (n k : ℕ) → taken n ≡ taken k → n ≡ k
-taken_inj n k e = cc
-
 pub filled_none : {X : Type 0} (xs : List X) → Filled xs [] xs
 filled_none xs = record { fits = omega arith; list = refl }
 
@@ -70,41 +61,6 @@ module _ {L : Type 0} (same : L → L → Bool) (rule : Rule) (labels : List L) 
 
   abbrev tests : L → ℕ → Type 0
   tests = meets same rule labels
-
-  -- a call that moves no number
-  module _ (m : Model L) (run run' : Run) (at : StandsAt same rule labels run m) (rules : run'.rule.now ≡ run.rule.now) (c : Call L) (a : Answer) (out : List ℕ) where
-    abbrev t : SetModel
-    t = at.sets
-
-    here : Stands (nodes_of run) run.state t
-    here = let P : Rule → Type 0 = λ r. Stands (rule_nodes r) run.state t in subst P (sym at.rule_is) at.stands
-
-    there : (t' : SetModel) → Stands (nodes_of run) run'.state t' → Stands nodes run'.state t'
-    there t' s = let P : Rule → Type 0 = λ r. Stands (rule_nodes r) run'.state t' in subst P at.rule_is s
-
-    by_rule : (k : Call ℕ) (r : Told) (t' : SetModel) → Does (nodes_of run) Has t k r t' → Does nodes Has t k r t'
-    by_rule k r t' d = let P : Rule → Type 0 = λ q. Does (rule_nodes q) Has t k r t' in subst P at.rule_is d
-
-    stands : (t' : SetModel) → Stands (nodes_of run) run'.state t' → (m' : Model L) → Carried nodes tests m' t' → StandsAt same rule labels run' m'
-    stands t' s m' k = record { rule_is = rules ∙ at.rule_is; sets = t'; stands = there t' s; carried = k }
-
-    pub unmoved : (k : Call ℕ) (r : Told) → Moves (nodes_of run) run.state k r run'.state
-        → ((t' : SetModel) → Does nodes Has t k r t' → (m' : Model L) × Does nodes tests m c r m' × Carried nodes tests m' t')
-        → ((m' : Model L) → Does nodes tests m c r m' → m'.handed ≡ m.handed)
-        → told a ≡ r → ((n : ℕ) → taken n ≡ r → ⊥) → Made same rule labels m c a out out run'
-    unmoved k r moves lift hands e never =
-        let n = moves.model t here in
-        let q = lift n.0 (by_rule k r n.0 n.1) in
-        let P : Told → Type 0 = λ u. Does nodes tests m c u q.0 in
-        record {
-          state = q.0;
-          does = subst P (sym e) q.1;
-          stands = stands n.0 n.2 q.0 q.2;
-          hands = [];
-          handed = hands q.0 q.1 ∙ sym (append-nil m.handed);
-          count = still a r e never;
-          filled = filled_none out;
-        }
 
   open_hands : (m : Model L) (l : L) (m' : Model L) (r : Told) → Does nodes tests m (Open l) r m' → m'.handed ≡ m.handed
   open_hands m l m' r (Does.too_deep a e) = refl
@@ -122,32 +78,39 @@ module _ {L : Type 0} (same : L → L → Bool) (rule : Rule) (labels : List L) 
   drop_hands m m' r (Does.drops v vs e) = refl
 
   module _ (m : Model L) (run run' : Run) (at : StandsAt same rule labels run m) (c : Call L) (a : Answer) (out : List ℕ) where
+    -- a call that moves no number
+    unmoved : (d : Call L) (r : Told) → c ≡ d → Played same rule labels m run run' at d r
+        → ((m' : Model L) → Does nodes tests m d r m' → m'.handed ≡ m.handed)
+        → told a ≡ r → ((n : ℕ) → taken n ≡ r → ⊥) → Made same rule labels m c a out out run'
+    unmoved d r is p hands e never =
+        let P : Call L → Told → Type 0 = λ k u. Does nodes tests m k u p.state in
+        record {
+          state = p.state;
+          does = subst (λ (k : Call L). P k (told a)) (sym is) (subst (λ (u : Told). P d u) (sym e) p.does);
+          stands = p.stands;
+          hands = [];
+          handed = hands p.state p.does ∙ sym (append-nil m.handed);
+          count = still a r e never;
+          filled = filled_none out;
+        }
+
     pub made_open : (l : L) (r : Result ℕ Refusal) → c ≡ Open l → Opening same run labels l (told_by opened r) run' → told a ≡ told_by opened r
         → Made same rule labels m c a out out run'
     made_open l r is o e =
-        let set = o.moves in
-        let P : Call L → Type 0 = λ k. Made same rule labels m k a out out run' in
-        let b : SetOf nodes (tests l) set.set =
-        let Q : Rule → Type 0 = λ q. SetOf (rule_nodes q) (Meets same (rule_nodes q) labels l) set.set in subst Q at.rule_is set.members in
-        subst P (sym is)
-        (unmoved m run run' at o.rule (Open l) a out (Open set.set) (told_by opened r) set.moves
-        (λ t' d. lift_open nodes tests m at.sets at.carried l set.set b d) (λ m' d. open_hands m l m' (told_by opened r) d) e (untaken_open r))
+        unmoved (Open l) (told_by opened r) is (played_open same rule labels m run run' at l (told_by opened r) o)
+        (λ m' d. open_hands m l m' (told_by opened r) d) e (untaken_open r)
 
     pub made_close : (r : Result Bool Refusal) → c ≡ Close → Steps run Close (told_by closed r) run' → told a ≡ told_by closed r
         → Made same rule labels m c a out out run'
     made_close r is o e =
-        let P : Call L → Type 0 = λ k. Made same rule labels m k a out out run' in
-        subst P (sym is)
-        (unmoved m run run' at o.rule Close a out Close (told_by closed r) o.moves
-        (λ t' d. lift_close nodes tests m at.sets at.carried d) (λ m' d. close_hands m m' (told_by closed r) d) e (untaken_close r))
+        unmoved Close (told_by closed r) is (played_close same rule labels m run run' at (told_by closed r) o)
+        (λ m' d. close_hands m m' (told_by closed r) d) e (untaken_close r)
 
     pub made_drop : (r : Result (Unit {0}) Refusal) → c ≡ Drop → Steps run Drop (told_by (λ _. dropped) r) run' → told a ≡ told_by (λ _. dropped) r
         → Made same rule labels m c a out out run'
     made_drop r is o e =
-        let P : Call L → Type 0 = λ k. Made same rule labels m k a out out run' in
-        subst P (sym is)
-        (unmoved m run run' at o.rule Drop a out Drop (told_by (λ _. dropped) r) o.moves
-        (λ t' d. lift_drop nodes tests m at.sets at.carried d) (λ m' d. drop_hands m m' (told_by (λ _. dropped) r) d) e (untaken_drop r))
+        unmoved Drop (told_by (λ _. dropped) r) is (played_drop same rule labels m run run' at (told_by (λ _. dropped) r) o)
+        (λ m' d. drop_hands m m' (told_by (λ _. dropped) r) d) e (untaken_drop r)
 
     -- a taking of as many numbers as wait and are asked for, at the front of the list
     pub made_take : (size count n : ℕ) (taken_list list : List ℕ) → c ≡ Take size → a ≡ Taken n
@@ -155,44 +118,33 @@ module _ {L : Type 0} (same : L → L → Bool) (rule : Rule) (labels : List L) 
         → Taking run (take count out) n taken_list run' → list ≡ taken_list ++ drop count out
         → Made same rule labels m c a out list run'
     made_take size count n taken_list list is answer waits fits o whole =
-        let ws : List ℕ = at.sets.waiting in
-        let s : Stands (nodes_of run) run.state at.sets = here m run run' at o.rule c a out in
-        let few : count ≡ min (length at.sets.waiting) size = waits at.sets s in
-        let len : length (take count out) ≡ count = length-take-le count out fits in
-        let next = o.moves.moves.model at.sets s in
-        let d = took (nodes_of run) at.sets (length (take count out)) next.1 in
-        let all : n ≡ min (length at.sets.waiting) (length (take count out)) = taken_inj n _ d.0 in
-        let n_is : n ≡ count = omega arith in
-        let same_ws = taken_min ws size count few in
+        let s : Stands (nodes_of run) run.state at.sets = let P : Rule → Type 0 = λ r. Stands (rule_nodes r) run.state at.sets in subst P (sym at.rule_is) at.stands in
+        let front : List ℕ = take count out in
         let same_wait : length at.sets.waiting ≡ length m.waiting = ap length at.carried.waiting in
-        let t' : SetModel = taking at.sets size in
-        let tree_is : next.0 ≡ taking at.sets size =
-        d.1 ∙ ap (λ (k : ℕ). taking at.sets k) len
-        ∙ ap₂ (λ (hs us : List ℕ). record { nodes = at.sets.nodes; path = at.sets.path; dropped = at.sets.dropped; closed = at.sets.closed; waiting = us; handed = at.sets.handed ++ hs })
-        same_ws.0 same_ws.1 in
-        let hands : List ℕ = take size m.waiting in
-        let is_hands : take n ws ≡ take size m.waiting = ap (λ (k : ℕ). take k ws) n_is ∙ same_ws.0 ∙ ap (take size) at.carried.waiting in
-        let many : length (take size m.waiting) ≡ count = ap length (sym (ap (take size) at.carried.waiting) ∙ sym same_ws.0) ∙ length-take-le count ws (omega arith) in
-        let T : SetModel → Type 0 = λ x. Stands nodes run'.state x in
+        let few : count ≡ min (length m.waiting) size = waits at.sets s ∙ ap (λ (k : ℕ). min k size) same_wait in
+        let len : length front ≡ count = length-take-le count out fits in
+        let n_is : n ≡ min (length m.waiting) (length front) = taken_count same rule labels m run run' at front taken_list n o in
+        let both = taken_min m.waiting size (length front) (len ∙ few) in
+        let state_is : taking m (length front) ≡ taking m size =
+        ap₂ (λ (hs us : List ℕ). record { nodes = m.nodes; path = m.path; dropped = m.dropped; closed = m.closed; waiting = us; handed = m.handed ++ hs }) both.0 both.1 in
+        let f : Filled front (take size m.waiting) taken_list =
+        let F : List ℕ → Type 0 = λ hs. Filled front hs taken_list in subst F both.0 (taken_filled same rule labels m run run' at front taken_list n o) in
+        let many : length (take size m.waiting) ≡ count = sym (ap length both.0) ∙ hands_count same rule labels m run run' at front taken_list n o ∙ omega arith in
+        let S : Model L → Type 0 = λ x. StandsAt same rule labels run' x in
         let P : Call L → Type 0 = λ k. Does nodes tests m k (told a) (taking m size) in
         let Q : Told → Type 0 = λ u. Does nodes tests m (Take size) u (taking m size) in
         let told_is : told a ≡ taken (min (length m.waiting) size) = ap told answer ∙ ap (λ (k : ℕ). taken k) (omega arith) in
         record {
           state = taking m size;
           does = subst P (sym is) (subst Q (sym told_is) (Does.takes size));
-          stands = record {
-            rule_is = o.rule ∙ at.rule_is;
-            sets = taking at.sets size;
-            stands = subst T tree_is (there m run run' at o.rule c a out next.0 next.2);
-            carried = taking_carried nodes tests m at.sets at.carried size;
-          };
-          hands = hands;
+          stands = subst S state_is (taken_stands same rule labels m run run' at front taken_list n o);
+          hands = take size m.waiting;
           handed = refl;
-          count = ap (λ (x : Answer). count_taken (told x)) answer ∙ n_is ∙ sym many;
+          count = ap (λ (x : Answer). count_taken (told x)) answer ∙ omega arith;
           filled = record {
             fits = omega arith;
             list = whole ∙ ap (λ (ys : List ℕ). ys ++ drop count out)
-                (o.moves.list at.sets s ∙ ap₂ (λ (hs ys : List ℕ). hs ++ ys) is_hands (drop_all n (take count out) (omega arith)) ∙ append-nil hands)
-                ∙ ap (λ (k : ℕ). hands ++ drop k out) (sym many);
+                (f.list ∙ ap (λ (ys : List ℕ). take size m.waiting ++ ys) (drop_all (length (take size m.waiting)) front (omega arith)) ∙ append-nil (take size m.waiting))
+                ∙ ap (λ (k : ℕ). take size m.waiting ++ drop k out) (sym many);
           };
         }
