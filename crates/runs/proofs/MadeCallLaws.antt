@@ -62,12 +62,12 @@ module _ {L : Type 0} (same : L → L → Bool) (rule : Rule) (labels : List L) 
   abbrev tests : L → ℕ → Type 0
   tests = meets same rule labels
 
-  open_hands : (m : Model L) (l : L) (m' : Model L) (r : Told) → Does nodes tests m (Open l) r m' → m'.handed ≡ m.handed
+  pub open_hands : (m : Model L) (l : L) (m' : Model L) (r : Told) → Does nodes tests m (Open l) r m' → m'.handed ≡ m.handed
   open_hands m l m' r (Does.too_deep a e) = refl
   open_hands m l m' r (Does.too_many a e f) = refl
   open_hands m l m' r (Does.opens a e f) = refl
 
-  close_hands : (m m' : Model L) (r : Told) → Does nodes tests m Close r m' → m'.handed ≡ m.handed
+  pub close_hands : (m m' : Model L) (r : Told) → Does nodes tests m Close r m' → m'.handed ≡ m.handed
   close_hands m m' r (Does.none_to_close e) = refl
   close_hands m m' r (Does.waiting_full v vs e o f) = refl
   close_hands m m' r (Does.selects v vs e o f) = refl

@@ -1,3 +1,4 @@
 pub mod Answers
 pub mod Selection
 pub mod Pairing
+pub mod Feeding

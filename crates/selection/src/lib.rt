@@ -1,3 +1,4 @@
 #![tactic(auto)]
 
 pub mod refusal;
+pub mod select;
