@@ -10,7 +10,7 @@ use Rattle.runs.specs.Picks.{In}
 use Rattle.runs.specs.Model.{Model, innermost, KeptChild, opening, dropping}
 use Rattle.runs.specs.Stands.{Chain}
 
-slice_get_before : {X : Type 0} (xs ys : List X) (k : ℕ) → k < length xs → slice_get (xs ++ ys) k ≡ slice_get xs k
+pub slice_get_before : {X : Type 0} (xs ys : List X) (k : ℕ) → k < length xs → slice_get (xs ++ ys) k ≡ slice_get xs k
 slice_get_before [] ys k l = absurd (omega arith)
 slice_get_before (x ∷ xs) ys zero l = refl
 slice_get_before (x ∷ xs) ys (suc k) l = slice_get_before xs ys k (omega arith)

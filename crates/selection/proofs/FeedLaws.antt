@@ -1,5 +1,5 @@
 -- A run is fed an event.
-use Rattle.std.proofs.Common.{◌≡◌, ℕ, ◌<◌, min, Bool, true, List, [], ◌++◌, length, take, Ok, Err, Result, sym, refl, ap, ◌∙◌, subst, append-nil, append_assoc, arith}
+use Rattle.std.proofs.Common.{◌≡◌, ℕ, ◌<◌, min, Bool, true, List, [], ◌++◌, length, take, Some, None, Ok, Err, Option, Result, sym, refl, ap, ◌∙◌, subst, append-nil, append_assoc, arith}
 use Rattle.rules.specs.declared.node.RuleNode.{RuleNode}
 use Rattle.rules.specs.declared.rule.Rule.{Rule}
 use Rattle.rules.specs.RuleNodes.{rule_nodes}
@@ -17,7 +17,11 @@ use Rattle.sources.specs.declared.event.Event.{Event}
 use Rattle.sources.specs.declared.event.Event.TheVariants.{Open, Close}
 use Rattle.selection.specs.declared.refusal.Refusal.{Refusal}
 use Rattle.selection.specs.declared.refusal.Refusal.TheVariants.{Run as by_run, ListFull}
-use Rattle.selection.specs.Feeding.{call_of, Fed, Feeding, Feeds}
+use Rattle.sources.specs.Events.{answer}
+use Rattle.sources.proofs.Answered.{from_some, from_none, from_err}
+use Rattle.selection.specs.declared.refusal.Cause.{Cause}
+use Rattle.selection.specs.declared.refusal.Cause.TheVariants.{Fault, Refused}
+use Rattle.selection.specs.Feeding.{call_of, Fed, Feeding, Feeds, Advances}
 use Rattle.selection.specs.Feeding.Feeds.{feeds}
 
 module _ {L : Type 0} (same : L → L → Bool) (labels : List L) (run run' : Run) (e : Event L) (numbers : List ℕ) where
@@ -45,27 +49,27 @@ module _ {L : Type 0} (same : L → L → Bool) (labels : List L) (run run' : Ru
 
   pub unfed_open : (l : L) (r : Result ℕ RunRefusal) (k : RunRefusal) (x : Refusal) → e ≡ Open l → Opening same run labels l (told_by opened r) run' → r ≡ Err k → x ≡ by_run k
       → Feeds same labels run e numbers (Err x) numbers run'
-  unfed_open l r k x is o no by = still (Err x) (λ rule m at.
+  unfed_open l r k x is o bad by = still (Err x) (λ rule m at.
       let p = played_open same rule labels m run run' at l (told_by opened r) o in
       let D : Result ℕ RunRefusal → Type 0 = λ q. Does (rule_nodes rule) (meets same rule labels) m (call.Open l) (told_by opened q) p.state in
       let F : Event L → Refusal → Type 0 = λ y z. Fed (rule_nodes rule) (meets same rule labels) m (length numbers) y (Err z) p.state in
-      (p.state, subst (λ y. F y x) (sym is) (subst (λ z. F (Open l) z) (sym by) (Fed.refuses (subst D no p.does))), open_hands same rule labels m l p.state (told_by opened r) p.does, p.stands))
+      (p.state, subst (λ y. F y x) (sym is) (subst (λ z. F (Open l) z) (sym by) (Fed.refuses (subst D bad p.does))), open_hands same rule labels m l p.state (told_by opened r) p.does, p.stands))
 
   pub unfed_close : (r : Result Bool RunRefusal) (k : RunRefusal) (x : Refusal) → e ≡ Close → Steps run call.Close (told_by closed r) run' → r ≡ Err k → x ≡ by_run k
       → Feeds same labels run e numbers (Err x) numbers run'
-  unfed_close r k x is o no by = still (Err x) (λ rule m at.
+  unfed_close r k x is o bad by = still (Err x) (λ rule m at.
       let p = played_close same rule labels m run run' at (told_by closed r) o in
       let D : Result Bool RunRefusal → Type 0 = λ q. Does (rule_nodes rule) (meets same rule labels) m call.Close (told_by closed q) p.state in
       let F : Event L → Refusal → Type 0 = λ y z. Fed (rule_nodes rule) (meets same rule labels) m (length numbers) y (Err z) p.state in
-      (p.state, subst (λ y. F y x) (sym is) (subst (λ z. F Close z) (sym by) (Fed.refuses (subst D no p.does))), close_hands same rule labels m p.state (told_by closed r) p.does, p.stands))
+      (p.state, subst (λ y. F y x) (sym is) (subst (λ z. F Close z) (sym by) (Fed.refuses (subst D bad p.does))), close_hands same rule labels m p.state (told_by closed r) p.does, p.stands))
 
   pub full_close : (r : Result Bool RunRefusal) (selected : Bool) → e ≡ Close → Steps run call.Close (told_by closed r) run' → r ≡ Ok selected → selected ≡ true → length numbers ≡ 0
       → Feeds same labels run e numbers (Err ListFull) numbers run'
-  full_close r selected is o ok yes none = still (Err ListFull) (λ rule m at.
+  full_close r selected is o ok chosen full = still (Err ListFull) (λ rule m at.
       let p = played_close same rule labels m run run' at (told_by closed r) o in
       let D : Result Bool RunRefusal → Type 0 = λ q. Does (rule_nodes rule) (meets same rule labels) m call.Close (told_by closed q) p.state in
       let F : Event L → Type 0 = λ y. Fed (rule_nodes rule) (meets same rule labels) m (length numbers) y (Err ListFull) p.state in
-      (p.state, subst F (sym is) (Fed.full (subst D (ok ∙ ap Ok yes) p.does) none), close_hands same rule labels m p.state (told_by closed r) p.does, p.stands))
+      (p.state, subst F (sym is) (Fed.full (subst D (ok ∙ ap Ok chosen) p.does) full), close_hands same rule labels m p.state (told_by closed r) p.does, p.stands))
 
   -- a closing, and then a taking
   pub fed_close : (r : Result Bool RunRefusal) (selected : Bool) (run₁ : Run) (n : ℕ) (after : List ℕ)
@@ -86,4 +90,24 @@ module _ {L : Type 0} (same : L → L → Bool) (labels : List L) (run run' : Ru
         stands = taken_stands same rule labels p.state run₁ run' p.stands numbers after n t;
       })
 
-pub ruleset fed_laws = (fed_open, unfed_open, unfed_close, full_close, fed_close)
+
+
+-- A step of a selection, by what next answered
+module _ {L F : Type 0} (same : L → L → Bool) (labels : List L) (run : Run) (es : List (Event L)) (end : Option F) (numbers : List ℕ) where
+  pub step_done : answer es end ≡ Ok None → Advances same labels run es end numbers (Ok None) numbers run
+  step_done h = let p = from_none es end h in Advances.finished p.0 p.1
+
+  pub step_fault : (f : F) (x : Cause F) → answer es end ≡ Err f → x ≡ Fault f → Advances same labels run es end numbers (Err x) numbers run
+  step_fault f x h by = let p = from_err es end f h in rw by (Advances.faulted f p.0 p.1)
+
+  pub step_fed : {after : List ℕ} {run' : Run} (e : Event L) (r : Result ℕ Refusal) (n : ℕ) → answer es end ≡ Ok (Some e)
+      → Feeds same labels run e numbers r after run' → r ≡ Ok n → Advances same labels run es end numbers (Ok (Some n)) after run'
+  step_fed {after} {run'} e r n h f ok =
+      Advances.fed e n (from_some es end e h) (let P : Result ℕ Refusal → Type 0 = λ q. Feeds same labels run e numbers q after run' in subst P ok f)
+
+  pub step_refused : {after : List ℕ} {run' : Run} (e : Event L) (r : Result ℕ Refusal) (k : Refusal) → answer es end ≡ Ok (Some e)
+      → Feeds same labels run e numbers r after run' → r ≡ Err k → Advances same labels run es end numbers (Err (Refused k)) after run'
+  step_refused {after} {run'} e r k h f bad =
+      Advances.stopped e k (from_some es end e h) (let P : Result ℕ Refusal → Type 0 = λ q. Feeds same labels run e numbers q after run' in subst P bad f)
+
+pub ruleset step_laws = (step_done, step_fault, step_fed, step_refused)

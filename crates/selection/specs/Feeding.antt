@@ -46,3 +46,13 @@ module _ {L : Type 0} (same : L → L → Bool) (labels : List L) where
   -- A run is fed an event: so it is with every state that the run stands for.
   pub data Feeds (run : Run) (e : Event L) (before : List ℕ) (r : Result ℕ Refusal) (after : List ℕ) (run' : Run) : Type 0 where
     feeds : ((rule : Rule) (m : Model L) → StandsAt same rule labels run m → Feeding rule m e before r after run') → Feeds run e before r after run'
+
+  -- A run is fed the first of the events, or hears the ending of the source.
+  pub data Advances {F : Type 0} (run : Run) (es : List (Event L)) (end : Option F) (before : List ℕ) :
+      Result (Option ℕ) (Cause F) → List ℕ → Run → Type 0 where
+    finished : es ≡ [] → end ≡ None → Advances run es end before (Ok None) before run
+    faulted : (f : F) → es ≡ [] → end ≡ Some f → Advances run es end before (Err (Fault f)) before run
+    fed : {after : List ℕ} {run' : Run} (e : Event L) (n : ℕ) → es ≡ e ∷ rest es → Feeds run e before (Ok n) after run'
+        → Advances run es end before (Ok (Some n)) after run'
+    stopped : {after : List ℕ} {run' : Run} (e : Event L) (k : Refusal) → es ≡ e ∷ rest es → Feeds run e before (Err k) after run'
+        → Advances run es end before (Err (Refused k)) after run'
