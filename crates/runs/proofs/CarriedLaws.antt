@@ -60,7 +60,7 @@ module _ {L : Type 0} (rule : List RuleNode) (meets : L → ℕ → Type 0) wher
   sets_push (n ∷ ns) [] a p l s h = absurd a
   sets_push (n ∷ ns) (t ∷ ss) a p l s h = (a.0, a.1, sets_push ns ss a.2 p l s h)
 
-  same_count : (ns : Nodes L) (ss : Nodes ℕ) → SetsOf rule meets ns ss → length ss ≡ length ns
+  pub same_count : (ns : Nodes L) (ss : Nodes ℕ) → SetsOf rule meets ns ss → length ss ≡ length ns
   same_count [] [] a = refl
   same_count [] (t ∷ ss) a = absurd a
   same_count (n ∷ ns) [] a = absurd a

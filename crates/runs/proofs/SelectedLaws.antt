@@ -125,7 +125,7 @@ module _ {A : Type 0} (rule : List RuleNode) (meets : A → ℕ → Type 0) (ord
         };
       }
 
-  taking_sound : (m : Model A) (n : ℕ) → Sound m → Sound (taking m n)
+  pub taking_sound : (m : Model A) (n : ℕ) → Sound m → Sound (taking m n)
   taking_sound m n s = record {
     chain = s.chain;
     parents = s.parents;

@@ -1,17 +1,15 @@
 -- A run is fed an event.
-use Rattle.std.proofs.Common.{◌≡◌, ℕ, ◌<◌, min, Bool, true, List, [], ◌++◌, length, take, Some, None, Ok, Err, Option, Result, sym, refl, ap, ◌∙◌, subst, append-nil, append_assoc, arith}
-use Rattle.rules.specs.declared.node.RuleNode.{RuleNode}
+use Rattle.std.proofs.Common.{◌≡◌, ℕ, ◌<◌, min, Bool, true, List, [], ◌++◌, length, take, Some, None, Ok, Err, Option, Result, sym, ap, ◌∙◌, subst, append-nil}
 use Rattle.rules.specs.declared.rule.Rule.{Rule}
 use Rattle.rules.specs.RuleNodes.{rule_nodes}
 use Rattle.runs.specs.declared.call.Call.TheVariants as call
 use Rattle.runs.specs.declared.refusal.Refusal.{Refusal as RunRefusal}
 use Rattle.runs.specs.declared.run.Run.{Run}
-use Rattle.runs.specs.Answers.{Told, told_by, opened, closed, refused}
-use Rattle.runs.specs.Refusals as run
+use Rattle.runs.specs.Answers.{told_by, opened, closed}
 use Rattle.runs.specs.Model.{Model, taking, Does}
 use Rattle.runs.specs.Calls.{Opening, Steps, Taking}
-use Rattle.runs.specs.Journal.{Filled, meets, StandsAt}
-use Rattle.runs.proofs.LabelledCalls.{Played, played_open, played_close, taken_count, taken_stands, taken_filled}
+use Rattle.runs.specs.Journal.{meets, StandsAt}
+use Rattle.runs.proofs.LabelledCalls.{played_open, played_close, taken_count, taken_stands, taken_filled}
 use Rattle.runs.proofs.MadeCallLaws.{open_hands, close_hands, filled_none}
 use Rattle.sources.specs.declared.event.Event.{Event}
 use Rattle.sources.specs.declared.event.Event.TheVariants.{Open, Close}
@@ -21,14 +19,14 @@ use Rattle.sources.specs.Events.{answer}
 use Rattle.sources.proofs.Answered.{from_some, from_none, from_err}
 use Rattle.selection.specs.declared.refusal.Cause.{Cause}
 use Rattle.selection.specs.declared.refusal.Cause.TheVariants.{Fault, Refused}
-use Rattle.selection.specs.Feeding.{call_of, Fed, Feeding, Feeds, Advances}
+use Rattle.selection.specs.Feeding.{Fed, Feeds, Advances}
 use Rattle.selection.specs.Feeding.Feeds.{feeds}
 
 module _ {L : Type 0} (same : L → L → Bool) (labels : List L) (run run' : Run) (e : Event L) (numbers : List ℕ) where
   -- nothing is handed out
   still : (r : Result ℕ Refusal)
       → ((rule : Rule) (m : Model L) → StandsAt same rule labels run m
-        → (m' : Model L) × Fed (rule_nodes rule) (meets same rule labels) m (length numbers) e r m' × (m'.handed ≡ m.handed) × StandsAt same rule labels run' m')
+      → (m' : Model L) × Fed (rule_nodes rule) (meets same rule labels) m (length numbers) e r m' × (m'.handed ≡ m.handed) × StandsAt same rule labels run' m')
       → Feeds same labels run e numbers r numbers run'
   still r fed = feeds (λ rule m at. let f = fed rule m at in record {
     state = f.0;
@@ -89,8 +87,6 @@ module _ {L : Type 0} (same : L → L → Bool) (labels : List L) (run run' : Ru
         filled = taken_filled same rule labels p.state run₁ run' p.stands numbers after n t;
         stands = taken_stands same rule labels p.state run₁ run' p.stands numbers after n t;
       })
-
-
 
 -- A step of a selection, by what next answered
 module _ {L F : Type 0} (same : L → L → Bool) (labels : List L) (run : Run) (es : List (Event L)) (end : Option F) (numbers : List ℕ) where

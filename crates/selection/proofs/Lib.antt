@@ -5,3 +5,6 @@ pub mod OneAnswer
 pub mod Pairs
 pub mod FeedLaws
 pub mod Whole
+pub mod Follows
+pub mod SelectLaws
+pub mod Mapped

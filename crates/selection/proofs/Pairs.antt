@@ -15,7 +15,7 @@ use Rattle.sources.specs.declared.event.Event.{Event}
 use Rattle.sources.specs.Nodes.{nodes}
 use Rattle.selection.specs.Answers.{Answer, done}
 use Rattle.selection.specs.Selection.{Selects, Selection}
-use Rattle.selection.specs.Pairing.{partner, Pairing, SameReport}
+use Rattle.selection.specs.Pairing.{partner, Pairing, SameReport, PairedAlike}
 use Rattle.selection.proofs.ClosingOrder.{parents_first}
 
 node_at : {X : Type 0} (xs : List X) (k : ℕ) → k < length xs → (x : X) × (slice_get xs k ≡ Some x)
@@ -173,18 +173,18 @@ module _ {L : Type 0} (same : L → L → Bool) (equality : IsEquivalence same) 
       let P : ℕ → Type 0 = λ k. take k is ≡ numbers in
       subst P (sym h) (ap (take (length numbers)) e.list ∙ take-append_seam numbers (drop (length numbers) was))
 
-  -- two selections of listings whose nodes pair off, each from a source that is done
-  pub both_report : {F G : Type 0} (es₁ es₂ : List (Event L)) (end₁ : Option F) (end₂ : Option G) (was₁ is₁ was₂ is₂ : List ℕ)
-      (left₁ left₂ : List (Event L)) (n m : ℕ)
-      → Selection same rule labels es₁ end₁ was₁ (done n) is₁ left₁
-      → Selection same rule labels es₂ end₂ was₂ (done m) is₂ left₂
-      → (f g : ℕ → ℕ) → Pairing same (nodes es₁) (nodes es₂) f g
-      → SameReport f (length (nodes es₁)) (take n is₁) (take m is₂)
-  both_report es₁ es₂ end₁ end₂ was₁ is₁ was₂ is₂ left₁ left₂ n m s₁ s₂ f g pairs =
-      let c₁ = completed (length was₁) es₁ end₁ s₁.selects n refl in
-      let c₂ = completed (length was₂) es₂ end₂ s₂.selects m refl in
+  -- two selections from sources whose nodes pair off
+  pub paired_alike : {F G : Type 0} (es₁ es₂ : List (Event L)) (end₁ : Option F) (end₂ : Option G) (was₁ is₁ was₂ is₂ : List ℕ)
+      (left₁ left₂ : List (Event L)) (a₁ : Answer F) (a₂ : Answer G)
+      → Selection same rule labels es₁ end₁ was₁ a₁ is₁ left₁
+      → Selection same rule labels es₂ end₂ was₂ a₂ is₂ left₂
+      → PairedAlike same es₁ es₂ a₁ a₂ is₁ is₂
+  paired_alike es₁ es₂ end₁ end₂ was₁ is₁ was₂ is₂ left₁ left₂ a₁ a₂ s₁ s₂ f g pairs n m e₁ e₂ =
+      let c₁ = completed (length was₁) es₁ end₁ s₁.selects n e₁ in
+      let c₂ = completed (length was₂) es₂ end₂ s₂.selects m e₂ in
       let P : List ℕ → Type 0 = λ vs. SameReport f (length (nodes es₁)) vs (take m is₂) in
       let Q : List ℕ → Type 0 = λ ws. SameReport f (length (nodes es₁)) s₁.reported ws in
-      subst P (sym (front was₁ s₁.reported is₁ n s₁.filled c₁.counted))
-      (subst Q (sym (front was₂ s₂.reported is₂ m s₂.filled c₂.counted))
-      (same_report (nodes es₁) (nodes es₂) f g (parents_first es₁) pairs s₁.reported s₂.reported c₁.exact c₂.exact))
+      let r = same_report (nodes es₁) (nodes es₂) f g (parents_first es₁) pairs s₁.reported s₂.reported c₁.exact c₂.exact in (
+        omega (arith, c₁.counted, c₂.counted, r.as_many),
+        subst P (sym (front was₁ s₁.reported is₁ n s₁.filled c₁.counted)) (subst Q (sym (front was₂ s₂.reported is₂ m s₂.filled c₂.counted)) r),
+      )

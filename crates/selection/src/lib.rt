@@ -1,4 +1,5 @@
 #![tactic(auto)]
 
+pub mod both;
 pub mod refusal;
 pub mod select;

@@ -39,8 +39,8 @@ impl Error for Refusal {}
 impl From<runs::refusal::Refusal> for Refusal {
     ghost from_gives = { λ run refusal. refusal ≡ Refusal.Run run };
 
-    fn from(refusal: runs::refusal::Refusal) -> Refusal {
-        Refusal::Run(refusal)
+    fn from(run: runs::refusal::Refusal) -> Refusal {
+        Refusal::Run(run)
     }
 }
 

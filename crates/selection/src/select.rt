@@ -1,10 +1,14 @@
 //! Selection from a source.
 ghost use Rattle.std.specs.Prelude.{◌≡◌};
+ghost use Rattle.rules.specs.RuleNodes.{rule_nodes};
 ghost use Rattle.sources.specs.Events.{rest};
+ghost use Rattle.selection.specs.Answers.{answered};
+ghost use Rattle.selection.specs.Selection.{Selection};
 ghost use Rattle.selection.specs.Feeding.{Feeds, Advances};
 
-use crate::refusal::{Cause, Refusal};
+use crate::refusal::{Cause, Refusal, SelectFault};
 use labels::kind::LabelKind;
+use rules::rule::Rule;
 use runs::run::Run;
 use sources::event::Event;
 use sources::source::Source;
@@ -51,5 +55,40 @@ fn advance<S: Source>(
     match feed(run, labels, event, numbers) {
         Ok(taken) => Ok(Some(taken)),
         Err(refusal) => Err(Cause::Refused(refusal)),
+    }
+}
+
+/// Makes a new run of the rule, feeds it the events of the source in order, and takes into `numbers` after each accepted closing. When the
+/// source is done, the answer is how many numbers are reported. They stand at the front of `numbers`, whose rest stays as it was.
+///
+/// # Errors
+///
+/// The source's fault, the run's refusal of an event, or a list with no room for a further number: each with the accepted openings and
+/// the count of the numbers reported.
+#[tactic(auto, using(crate::proofs::SelectLaws::select_laws))]
+pub fn select<S: Source>(
+    rule: &Rule,
+    labels: &[S::Label],
+    source: &mut S,
+    numbers: &mut [u32],
+) -> Result<usize, SelectFault<S::Fault>>
+    ensures selection { Selection S.Label.eq (rule_nodes rule.now) labels.now (S.events source.old) (S.ending source.old)
+        numbers.old (answered result) numbers.new (S.events source.new) }
+    ensures ending { S.ending source.new ≡ S.ending source.old }
+{
+    let mut run = Run::new(rule);
+    let mut reported = 0;
+    'feed: loop {
+        match advance(&mut run, labels, source, &mut numbers[reported..]) {
+            Ok(Some(taken)) => reported += taken,
+            Ok(None) => return Ok(reported),
+            Err(cause) => {
+                return Err(SelectFault {
+                    cause,
+                    openings: run.openings(),
+                    reported,
+                });
+            }
+        }
     }
 }

@@ -1,4 +1,4 @@
-use Rattle.std.proofs.Common.{◌≡◌, ℕ, ◌<◌, true, false, length, sym, ◌∙◌, arith}
+use Rattle.std.proofs.Common.{◌≡◌, ◌<◌, true, length, arith}
 use Rattle.std.proofs.lemmas.Result.{err_from_is_err_and}
 use Rattle.selection.proofs.FeedLaws.{fed_open, unfed_open, unfed_close, full_close, fed_close}
 use Rattle.selection.proofs.select.feed.Goals as goal
@@ -31,7 +31,8 @@ returns-in_ok-open-in-Open g c =
 pub returns-else-selected : goal.returns-else-selected
 returns-else-selected g c =
     let room : c.in_ok-selected-in-Close.selected ≡ true → 0 < length c.args.numbers.now = λ e. elim c.else-selected.branch [
-      else-selected-via-then-selected+else-is_empty w ↦ grind arith
-    | else-selected-via-else-selected w ↦ grind arith ] in
+      | else-selected-via-then-selected+else-is_empty w ↦ grind arith
+      | else-selected-via-else-selected w ↦ grind arith
+    ] in
     fed_close g.L.PartialEq.eq c.args.labels.now c.args.run.now c.take.new.self c.args.event c.args.numbers.now c.close.result c.in_ok-selected-in-Close.selected
     c.close.new.self c.take.result c.take.new.out c.in-Close.is c.close.ensures.step c.in_ok-selected-in-Close.was room c.take.ensures
