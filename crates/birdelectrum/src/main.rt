@@ -1,13 +1,11 @@
 //! Reports the folders of a listing at which a rule occurs.
 #![tactic(auto)]
 
-mod refusal;
-mod report;
 #[cfg(test)]
 mod tests;
 
-use refusal::{INPUT, Refusal};
-use report::{Report, report_on};
+use reports::refusal::{INPUT_LIMIT, Refusal};
+use reports::report::{Report, report_on};
 use std::alloc::{AllocError, Global};
 use std::io;
 use std::io::{Read, Write};
@@ -32,7 +30,10 @@ fn text(heap: Global, numbers: &[u32], verdict: Result<(), Refusal>) -> Result<S
 
 fn main(rt: HostRuntime) -> io::Result<()> {
     let mut input = Vec::new(rt.alloc());
-    rt.stdin().take(INPUT as u64 + 1).read_to_end(&mut input)?;
+    // One byte more than the limit is read, to see whether there are more.
+    rt.stdin()
+        .take(INPUT_LIMIT as u64 + 1)
+        .read_to_end(&mut input)?;
     let mut numbers = vec![in rt.alloc(); 0u32; LIST]?;
     let Report { reported, verdict } = report_on(&input, &mut numbers);
     let text = text(rt.alloc(), &numbers[..reported], verdict)?;

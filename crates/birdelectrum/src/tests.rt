@@ -1,5 +1,5 @@
 //! Whole inputs.
-use crate::report::{Report, report_on};
+use reports::report::{Report, report_on};
 use std::process::Abort;
 
 // The report on an input, with room for four numbers.

@@ -1,0 +1,5 @@
+pub mod TableLaws
+pub mod PathLaws
+pub mod AgreeLaws
+pub mod TextLaws
+pub mod Paired

@@ -1,0 +1,4 @@
+#![tactic(auto)]
+
+pub mod node;
+pub mod path;

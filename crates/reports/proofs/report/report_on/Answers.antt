@@ -1,0 +1,5 @@
+use Rattle.reports.proofs.ReportLaws.{reports_fit}
+use Rattle.reports.proofs.report.report_on.Goals as goal
+
+pub returns-in-Ok-clause-fits : goal.returns-in-Ok-clause-fits
+returns-in-Ok-clause-fits c = reports_fit _ _ _ _ (c.answer.ensures _ c.in-Ok.ensures)

@@ -1,0 +1,5 @@
+#![tactic(auto)]
+
+pub mod question;
+pub mod refusal;
+pub mod report;

@@ -1,0 +1,49 @@
+//! What is reported of an input.
+ghost use Rattle.std.specs.Prelude.{ℕ, ◌≤◌, List, length};
+ghost use Rattle.reports.specs.Reports.{QuestionOf, Reports};
+
+use crate::question::Question;
+use crate::refusal::Refusal;
+use selection::select::select;
+use xml::reader::Xml;
+
+/// How many numbers are reported, and whether the input is refused. A count, and not the filled part of the caller's list: the list stays
+/// lent no longer than the call.
+#[derive(Clone, Copy, PartialEq, Eq, Debug)]
+pub struct Report {
+    pub reported: usize,
+    pub verdict: Result<(), Refusal>,
+}
+
+// Selects from the listing that is behind the first line.
+fn answer(question: &Question, numbers: &mut [u32]) -> Report
+    ensures { (bs : List ℕ) → QuestionOf bs question.now → Reports bs numbers.old result numbers.new }
+{
+    let listing = question.rest;
+    let mut source = Xml::new(listing);
+    match select(&question.rule, question.labels(), &mut source, numbers) {
+        Ok(reported) => Report {
+            reported,
+            verdict: Ok(()),
+        },
+        Err(fault) => Report {
+            reported: fault.reported,
+            verdict: Err(Refusal::of_selection(fault.cause, listing.len())),
+        },
+    }
+}
+
+/// Reads an input, and selects. The numbers to report stand at the front of the list.
+#[tactic(auto, using(crate::proofs::ReportLaws::bad_reported))]
+pub fn report_on(input: &[u8], numbers: &mut [u32]) -> Report
+    ensures reports { Reports input.now numbers.old result numbers.new }
+    ensures fits { result.reported ≤ length numbers.old }
+{
+    match Question::read(input) {
+        Ok(question) => answer(&question, numbers),
+        Err(refusal) => Report {
+            reported: 0,
+            verdict: Err(refusal),
+        },
+    }
+}
