@@ -1,5 +1,5 @@
 -- What is reported of an input.
-use Rattle.std.proofs.Common.{Option, ◌≡◌, ℕ, ◌≤◌, Bool, false, List, [], length, take, map, Err, refl, ap, subst, arith}
+use Rattle.std.proofs.Common.{Option, Result, Ok, ◌≡◌, ℕ, ◌≤◌, Bool, false, List, [], length, take, map, Err, refl, ap, subst, arith}
 use Rattle.std.specs.Str.{bytes_eq}
 use Rattle.labels.specs.Names.{bytes_of}
 use Rattle.labels.specs.declared.name.Name.{Name}
@@ -14,7 +14,8 @@ use Rattle.rules.specs.ReadText.{Unread, ReadingRefused, short_list, by_text}
 use Rattle.rules.proofs.TestNames.{same_tests}
 use Rattle.sources.specs.declared.event.Event.{Event}
 use Rattle.sources.specs.Events.{MeansOnly}
-use Rattle.selection.specs.Answers.{Answer, number, ended_by}
+use Rattle.selection.specs.Answers.{Answer, number, ended_by, answered}
+use Rattle.selection.specs.declared.refusal.SelectFault.{SelectFault}
 use Rattle.selection.specs.declared.refusal.Cause.{Cause}
 use Rattle.selection.specs.declared.refusal.Cause.TheVariants.{Fault, Refused}
 use Rattle.selection.specs.Selection.{Selects, Selection}
@@ -69,10 +70,20 @@ module _ (same : Name → Name → Bool) (tied : (a b : Name) → same a b ≡ b
       }
 
 -- how a selection ends is how it is reported
-pub concludes_by : (n : ℕ) (cause : Cause XmlFault) (r : Refusal) (openings count : ℕ) → Ends cause n r
+pub concludes_done : (n count : ℕ) (answer : Result ℕ (SelectFault XmlFault)) (report : Report) → answer ≡ Ok count
+    → report ≡ record { reported = count; verdict = Ok tt } → Concludes n (answered answer) report
+concludes_done n count answer report a e = rw (a, e) (Concludes.finished count)
+
+by_cause : (n : ℕ) (cause : Cause XmlFault) (r : Refusal) (openings count : ℕ) → Ends cause n r
     → Concludes n (ended_by cause openings count) (record { reported = count; verdict = Err r })
-concludes_by n (Fault f) r openings count e = rw e (Concludes.fault f openings count)
-concludes_by n (Refused k) r openings count e = Concludes.refusal r (number k) openings count (ap number_and_place e)
+by_cause n (Fault f) r openings count e = rw e (Concludes.fault f openings count)
+by_cause n (Refused k) r openings count e = Concludes.refusal r (number k) openings count (ap number_and_place e)
+
+pub concludes_by : (n : ℕ) (answer : Result ℕ (SelectFault XmlFault)) (f : SelectFault XmlFault) (r : Refusal) (report : Report) → answer ≡ Err f
+    → Ends f.cause n r → report ≡ record { reported = f.reported; verdict = Err r } → Concludes n (answered answer) report
+concludes_by n answer f r report a e is = rw (a, is) (by_cause n f.cause r f.openings f.reported e)
+
+pub ruleset concludes = (concludes_done, concludes_by)
 
 -- what is reported fits the list
 counted : {L : Type 0} (same : L → L → Bool) (rule : List RuleNode) (labels : List L) (room : ℕ) (es : List (Event L)) (end : Option XmlFault) (n : ℕ)

@@ -1,10 +1,13 @@
 //! What is reported of an input.
 ghost use Rattle.std.specs.Prelude.{ℕ, ◌≤◌, List, length};
-ghost use Rattle.reports.specs.Reports.{QuestionOf, Reports};
+ghost use Rattle.selection.specs.Answers.{answered};
+ghost use Rattle.reports.specs.Reports.{QuestionOf, Concludes, Reports};
 
 use crate::question::Question;
 use crate::refusal::Refusal;
+use selection::refusal::SelectFault;
 use selection::select::select;
+use xml::fault::XmlFault;
 use xml::reader::Xml;
 
 /// How many numbers are reported, and whether the input is refused. A count, and not the filled part of the caller's list: the list stays
@@ -15,22 +18,33 @@ pub struct Report {
     pub verdict: Result<(), Refusal>,
 }
 
+impl Report {
+    /// How a selection from a listing of so many bytes is reported.
+    #[tactic(auto, using(crate::proofs::ReportLaws::concludes))]
+    pub fn of_selection(answer: Result<usize, SelectFault<XmlFault>>, length: usize) -> Report
+        ensures { Concludes length (answered answer) result }
+    {
+        match answer {
+            Ok(reported) => Report {
+                reported,
+                verdict: Ok(()),
+            },
+            Err(fault) => Report {
+                reported: fault.reported,
+                verdict: Err(Refusal::of_selection(fault.cause, length)),
+            },
+        }
+    }
+}
+
 // Selects from the listing that is behind the first line.
 fn answer(question: &Question, numbers: &mut [u32]) -> Report
     ensures { (bs : List ℕ) → QuestionOf bs question.now → Reports bs numbers.old result numbers.new }
 {
     let listing = question.rest;
     let mut source = Xml::new(listing);
-    match select(&question.rule, question.labels(), &mut source, numbers) {
-        Ok(reported) => Report {
-            reported,
-            verdict: Ok(()),
-        },
-        Err(fault) => Report {
-            reported: fault.reported,
-            verdict: Err(Refusal::of_selection(fault.cause, listing.len())),
-        },
-    }
+    let answer = select(&question.rule, question.labels(), &mut source, numbers);
+    Report::of_selection(answer, listing.len())
 }
 
 /// Reads an input, and selects. The numbers to report stand at the front of the list.
