@@ -3,3 +3,4 @@ pub mod PathLaws
 pub mod AgreeLaws
 pub mod TextLaws
 pub mod Paired
+pub mod ComparedLaws

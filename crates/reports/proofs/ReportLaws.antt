@@ -14,7 +14,7 @@ use Rattle.rules.specs.ReadText.{Unread, ReadingRefused, short_list, by_text}
 use Rattle.rules.proofs.TestNames.{same_tests}
 use Rattle.sources.specs.declared.event.Event.{Event}
 use Rattle.sources.specs.Events.{MeansOnly}
-use Rattle.selection.specs.Answers.{Answer, number, ended_by, answered}
+use Rattle.selection.specs.Answers.{Answer, done, number, ended_by, answered}
 use Rattle.selection.specs.declared.refusal.SelectFault.{SelectFault}
 use Rattle.selection.specs.declared.refusal.Cause.{Cause}
 use Rattle.selection.specs.declared.refusal.Cause.TheVariants.{Fault, Refused}
@@ -46,12 +46,12 @@ bad_reported bs before r report e b = rw e (Reports.bad r b)
 
 -- a selection by labels is one by the bytes of names
 module _ (same : Name → Name → Bool) (tied : (a b : Name) → same a b ≡ bytes_eq (bytes_of a) (bytes_of b)) (bs : List ℕ) (q : Question) (asked : QuestionOf bs q) where
-  pub selected_by : (s : Xml) (labels : List Name) (before after : List ℕ) (a : Answer XmlFault) (left : List (Event Name)) (report : Report)
-      → MeansOnly (Reads q.rest.now 0 [] false) (xml_spelled s) (xml_ending s) → map spelled (xml_events s) ≡ xml_spelled s
+  pub selected_by : (listing : List ℕ) (s : Xml) (labels : List Name) (before after : List ℕ) (a : Answer XmlFault) (left : List (Event Name)) (report : Report)
+      → MeansOnly (Reads listing 0 [] false) (xml_spelled s) (xml_ending s) → map spelled (xml_events s) ≡ xml_spelled s
       → labels ≡ take (length (rule_nodes q.rule)) q.names
       → Selection same (rule_nodes q.rule) labels (xml_events s) (xml_ending s) before a after left
-      → Concludes (length q.rest.now) a report → SelectedBy asked.line asked.nodes q.rest.now before report after
-  selected_by s labels before after a left report meaning back tests selection ends =
+      → Concludes (length listing) a report → SelectedBy asked.line asked.nodes listing before report after
+  selected_by listing s labels before after a left report meaning back tests selection ends =
       let P : List RuleNode → Type 0 = λ ns. Selection same ns (take (length ns) q.names) (xml_events s) (xml_ending s) before a after left in
       let Q : List Name → Type 0 = λ ls. Selection same (rule_nodes q.rule) ls (xml_events s) (xml_ending s) before a after left in
       let R : List (Event (List ℕ)) → Type 0 = λ es. Selection bytes_eq (plain_nodes asked.nodes) (test_names asked.line asked.nodes) es (xml_ending s) before a after (map spelled left) in
@@ -106,3 +106,9 @@ reports_fit bs before after report (Reports.selected {line = line} {listing = li
     let c = counted bytes_eq (plain_nodes ns) (test_names line ns) (length before) s.events s.ending (length listing) w.selects s.answer refl s.concludes in
     let f = w.filled.fits in
     omega arith
+
+-- a report without a refusal is that of a selection that finished
+pub concludes_ok : (n : ℕ) {a : Answer XmlFault} {report : Report} → Concludes n a report → report.verdict ≡ Ok tt → a ≡ done report.reported
+concludes_ok n (Concludes.finished count) e = refl
+concludes_ok n (Concludes.fault f o count) e = let z : ⊥ = cc in absurd z
+concludes_ok n (Concludes.refusal r k o count p) e = let z : ⊥ = cc in absurd z

@@ -18,7 +18,7 @@ use Rattle.selection.specs.Selection.{Accepts, OccursAt, Reported, Refuses, Sele
 use Rattle.selection.proofs.OneAnswer.{one_answer}
 
 -- a node with its label changed
-abbrev relabelled : {L M : Type 0} → (L → M) → Option ℕ × L → Option ℕ × M
+abbrev pub relabelled : {L M : Type 0} → (L → M) → Option ℕ × L → Option ℕ × M
 relabelled h n = (n.0, h n.1)
 
 -- an entry of the changed nodes is a changed entry
@@ -30,10 +30,10 @@ entry_from {L} {M} h (Some n) p m e =
     (n.1, ap (λ (k : Option ℕ). Some (k, n.1)) (ap (λ (k : Option ℕ × M). k.0) q), ap (λ (k : Option ℕ × M). k.1) q)
 
 module _ {L M : Type 0} (h : L → M) (ns : Nodes L) where
-  there : (v : ℕ) (p : Option ℕ) (l : L) → slice_get ns v ≡ Some (p, l) → slice_get (map (relabelled h) ns) v ≡ Some (p, h l)
+  pub there : (v : ℕ) (p : Option ℕ) (l : L) → slice_get ns v ≡ Some (p, l) → slice_get (map (relabelled h) ns) v ≡ Some (p, h l)
   there v p l e = slice_get-map (relabelled h) ns v ∙ ap (option_map (relabelled h)) e
 
-  back : (v : ℕ) (p : Option ℕ) (m : M) → slice_get (map (relabelled h) ns) v ≡ Some (p, m)
+  pub back : (v : ℕ) (p : Option ℕ) (m : M) → slice_get (map (relabelled h) ns) v ≡ Some (p, m)
       → (l : L) × (slice_get ns v ≡ Some (p, l)) × (h l ≡ m)
   back v p m e = entry_from h (slice_get ns v) p m (sym (slice_get-map (relabelled h) ns v) ∙ e)
 
@@ -55,7 +55,7 @@ module _ {L M : Type 0} (h : L → M) (ns : Nodes L) where
         (k.0, r.0, r.1, (tests r.0 x less).1 (subst P (sym r.2) k.3)))
 
 module _ {L M : Type 0} (h : L → M) (ev : Event L → Event M) (opens : (l : L) → ev (Open l) ≡ Open (h l)) (closes : ev Close ≡ Close) where
-  nodes_from_map : (n : ℕ) (p : List ℕ) (es : List (Event L)) → nodes_from n p (map ev es) ≡ map (relabelled h) (nodes_from n p es)
+  pub nodes_from_map : (n : ℕ) (p : List ℕ) (es : List (Event L)) → nodes_from n p (map ev es) ≡ map (relabelled h) (nodes_from n p es)
   nodes_from_map n p [] = refl
   nodes_from_map n p (Open l ∷ es) =
       ap (λ (e : Event M). nodes_from n p (e ∷ map ev es)) (opens l)

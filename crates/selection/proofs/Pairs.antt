@@ -188,3 +188,10 @@ module _ {L : Type 0} (same : L → L → Bool) (equality : IsEquivalence same) 
         omega (arith, c₁.counted, c₂.counted, r.as_many),
         subst P (sym (front was₁ s₁.reported is₁ n s₁.filled c₁.counted)) (subst Q (sym (front was₂ s₂.reported is₂ m s₂.filled c₂.counted)) r),
       )
+
+  -- the numbers of a selection that finished are those of nodes
+  pub reported_within : {F : Type 0} (es : List (Event L)) (end : Option F) (was is : List ℕ) (left : List (Event L)) (a : Answer F)
+      → Selection same rule labels es end was a is left → (n : ℕ) → a ≡ done n → (v : ℕ) → In v (take n is) → v < length (nodes es)
+  reported_within es end was is left a s n e v i =
+      let c = completed (length was) es end s.selects n e in
+      ((c.exact.exactly v).0 (subst (λ vs. In v vs) (front was s.reported is n s.filled c.counted) i)).0

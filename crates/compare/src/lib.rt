@@ -1,4 +1,0 @@
-#![tactic(auto)]
-
-pub mod node;
-pub mod path;

@@ -1,0 +1,41 @@
+//! Whole inputs.
+use crate::comparison::compare;
+
+// For each input: the agreement, and how many folders are reported from each listing.
+const COMPARED: [(&[u8], Option<bool>, usize, usize); 7] = [
+    (b"//a\n<r><a/><b/></r>\0<r><b/><a/></r>", Some(true), 1, 1),
+    (
+        b"//a[b]\n<r><a><b/></a><a/></r>\0<r><a/><a><b/></a></r>",
+        Some(true),
+        1,
+        1,
+    ),
+    (b"//a\n<r><a/></r>\0<r><b/><a/><a/></r>", Some(false), 1, 2),
+    (b"//a\n<r><a/></r>\0<s><a/></s>", Some(false), 1, 1),
+    (b"//a\n<r/>\0<r/>", Some(true), 0, 0),
+    (b"//a\n<r><a/></r>", None, 1, 0),
+    (b"//a\n<r><a/></b>\0<r><a/></r>", None, 1, 1),
+];
+
+#[test]
+fn inputs(rt: HostRuntime) {
+    for (input, agreement, first, second) in COMPARED {
+        let mut ones = [7; 4];
+        let mut twos = [7; 4];
+        let comparison = compare(input, &mut ones, &mut twos, rt.alloc())
+            .expect(&rt, "memory")
+            .expect(&rt, "a good input");
+        assert_eq!(rt; comparison.agreement, agreement, "in {input:?}");
+        assert_eq!(rt; comparison.first.report.reported, first, "in {input:?}");
+        assert_eq!(rt; comparison.second.report.reported, second, "in {input:?}");
+    }
+}
+
+#[test]
+fn refused(rt: HostRuntime) {
+    let told = compare(b"//a[\n<a/>\0<a/>", &mut [], &mut [], rt.alloc())
+        .expect(&rt, "memory")
+        .map(|_| ())
+        .map_err(|refusal| (refusal.number(), refusal.place()));
+    assert_eq!(rt; told, Err((11, 4)));
+}
