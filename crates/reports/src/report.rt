@@ -1,6 +1,7 @@
 //! What is reported of an input.
-ghost use Rattle.std.specs.Prelude.{ℕ, ◌≤◌, List, length};
+ghost use Rattle.std.specs.Prelude.{◌≡◌, ℕ, ◌≤◌, List, length, take, Ok};
 ghost use Rattle.selection.specs.Answers.{answered};
+ghost use Rattle.reports.specs.Elements.{SelectsElements};
 ghost use Rattle.reports.specs.Reports.{QuestionOf, Concludes, Reports};
 
 use crate::question::Question;
@@ -52,6 +53,7 @@ fn answer(question: &Question, numbers: &mut [u32]) -> Report
 pub fn report_on(input: &[u8], numbers: &mut [u32]) -> Report
     ensures reports { Reports input.now numbers.old result numbers.new }
     ensures fits { result.reported ≤ length numbers.old }
+    ensures elements { result.verdict ≡ Ok tt → SelectsElements input.now (take result.reported numbers.new) }
 {
     match Question::read(input) {
         Ok(question) => answer(&question, numbers),

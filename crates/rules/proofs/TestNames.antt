@@ -6,7 +6,8 @@ use Rattle.rules.specs.declared.node.Edge.{Edge}
 use Rattle.rules.specs.declared.syntax.ParsedNode.{ParsedNode}
 use Rattle.rules.specs.Grammar.{Test, name, star, node, Step, step, Predicates, none, predicate, Path, child, descendant, Further, last, further, Text, text}
 use Rattle.rules.specs.Embedding.{Meets}
-use Rattle.rules.specs.Expression.{token_bytes, SelectsAlike}
+use Rattle.rules.specs.Expression.{token_bytes, TextStandsFor, SelectsAlike}
+use Rattle.rules.specs.XPath.{LocationPath}
 use Rattle.rules.specs.RuleNodes.{is_star, plain_nodes}
 use Rattle.rules.specs.TestNames.{test_names}
 use Rattle.rules.specs.Texts.{TextGives, gives}
@@ -93,9 +94,9 @@ bytes_in bs [] h = behind
 bytes_in bs (n ∷ ns) (name k, h) = named k refl (bytes_in bs ns h)
 bytes_in bs (n ∷ ns) (star k, h) = unnamed (λ q. let z : Star ≡ Name = sym k ∙ q in cc) (bytes_in bs ns h)
 
--- with the bytes of its tests for labels, a rule text selects as an expression the nodes at which its rule occurs
+-- a rule text stands for an expression, which selects the nodes at which the rule occurs with the bytes of its tests for labels
 pub selects_by_bytes : (alike : List ℕ → List ℕ → Bool) (bs : List ℕ) (ns : List ParsedNode) → TextGives bs ns
-    → SelectsAlike alike (λ w. w) alike bs (plain_nodes ns) (test_names bs ns)
+    → ((p : LocationPath) × TextStandsFor bs p) × SelectsAlike alike (λ w. w) alike bs (plain_nodes ns) (test_names bs ns)
 selects_by_bytes alike bs ns given =
-    (text_selects_alike (List ℕ) alike (λ w. w) alike (λ a b. refl) bs ns (test_names bs ns) (test_names bs ns) given
-    (bytes_in bs ns (given_tests given))).1
+    text_selects_alike (List ℕ) alike (λ w. w) alike (λ a b. refl) bs ns (test_names bs ns) (test_names bs ns) given
+    (bytes_in bs ns (given_tests given))

@@ -1,0 +1,24 @@
+-- What is reported, in the words of XPath 1.0 and XML 1.0.
+use Rattle.std.specs.Prelude.{ℕ, ◌<◌, ◌↔◌, List, None}
+use Rattle.std.specs.Str.{bytes_eq}
+use Rattle.rules.specs.XPath.{LocationPath}
+use Rattle.rules.specs.Expression.{TextStandsFor, SelectedIn}
+use Rattle.runs.specs.Picks.{In, Once, Picks}
+use Rattle.sources.specs.Forest.{Forest, events_of, size, nodes_of}
+use Rattle.sources.specs.Nodes.{closing_order}
+use Rattle.xml.specs.Documents.{Document}
+use Rattle.reports.specs.Parts.{Splits}
+
+-- The first line of bs stands for an expression, and what is behind it is a document. The numbers are those of exactly the elements of
+-- the document that the expression selects, each once, in the order in which the elements end.
+pub record SelectsElements (bs numbers : List ℕ) : Type 0 where
+  pub line : List ℕ
+  pub listing : List ℕ
+  pub split : Splits 10 bs line listing
+  pub expression : LocationPath
+  pub stands : TextStandsFor line expression
+  pub tree : Forest (List ℕ)
+  pub document : Document listing tree
+  pub exactly : (v : ℕ) → In v numbers ↔ ((v < size tree) × SelectedIn (λ w. w) bytes_eq (nodes_of None 0 tree) expression v)
+  pub once : Once numbers
+  pub order : Picks (λ v. In v numbers) (closing_order (events_of tree)) numbers
