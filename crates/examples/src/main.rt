@@ -1,6 +1,7 @@
 //! Runs worked examples over the library, and prints what comes of each.
 #![tactic(auto)]
 
+mod calls;
 mod ended;
 mod folders;
 mod journals;
@@ -13,5 +14,6 @@ fn main(rt: HostRuntime) -> io::Result<()> {
     texts::show(&rt)?;
     listings::show(&rt)?;
     folders::show(&rt)?;
+    calls::show(&rt)?;
     journals::show(&rt)
 }
