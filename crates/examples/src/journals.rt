@@ -5,19 +5,19 @@ use runs::call::{Answer, Call};
 use runs::journal::replay;
 use std::io;
 
-// How many calls the journal of an example has at most.
+// How many calls the journal of the examples has.
 const CALLS: usize = 11;
 
 fn name(letter: u8) -> Name {
     Name::try_from(&[letter][..]).unwrap_or(Name::empty())
 }
 
-// Replays the calls, with the numbers into the list, and prints each answer and the numbers handed out, or why it did not
-// come to that.
+// Replays the calls, with the numbers into the list, and prints each call with its answer, and the numbers handed out, or why it did
+// not come to that.
 fn show_journal(
     rt: &impl Print,
     text: &str,
-    calls: &[Call<Name>],
+    journal: &[(&str, Call<Name>); CALLS],
     numbers: &mut [u32],
 ) -> io::Result<()> {
     let mut rule = Rule::new();
@@ -25,16 +25,18 @@ fn show_journal(
     if let Err(refusal) = rule.read_text(text.as_bytes(), &mut names) {
         return println!(rt; "{text}: refused {refusal}");
     }
+    let calls = journal.map(|(_, call)| call);
     let mut answers = [Answer::Dropped; CALLS];
-    match replay(&rule, &names, calls, &mut answers, numbers) {
+    let room = numbers.len();
+    match replay(&rule, &names, &calls, &mut answers, numbers) {
         Ok(outcome) => {
-            for answer in &answers[..calls.len()] {
-                println!(rt; "{text}: {answer:?}")?;
+            for ((call, _), answer) in journal.iter().zip(&answers) {
+                println!(rt; "{text}: {call}: {answer:?}")?;
             }
             let handed = &numbers[..outcome.handed];
             println!(rt; "{text}: handed out {handed:?}")
         }
-        Err(shortage) => println!(rt; "{text}: {shortage}"),
+        Err(shortage) => println!(rt; "{text}, with a list of {room} numbers: {shortage}"),
     }
 }
 
@@ -42,17 +44,17 @@ pub fn show(rt: &impl Print) -> io::Result<()> {
     let a = name(b'a');
     let b = name(b'b');
     let calls = [
-        Call::Open(a),
-        Call::Open(a),
-        Call::Open(b),
-        Call::Close,
-        Call::Close,
-        Call::Take(5),
-        Call::Open(b),
-        Call::Drop,
-        Call::Close,
-        Call::Close,
-        Call::Take(5),
+        ("open a", Call::Open(a)),
+        ("open a", Call::Open(a)),
+        ("open b", Call::Open(b)),
+        ("close", Call::Close),
+        ("close", Call::Close),
+        ("take 5", Call::Take(5)),
+        ("open b", Call::Open(b)),
+        ("drop", Call::Drop),
+        ("close", Call::Close),
+        ("close", Call::Close),
+        ("take 5", Call::Take(5)),
     ];
     let mut numbers = [0; 4];
     show_journal(rt, "//a[b]", &calls, &mut numbers)?;
