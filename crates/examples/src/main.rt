@@ -6,6 +6,7 @@ mod ended;
 mod folders;
 mod journals;
 mod listings;
+mod selections;
 mod texts;
 
 use std::io;
@@ -15,5 +16,6 @@ fn main(rt: HostRuntime) -> io::Result<()> {
     listings::show(&rt)?;
     folders::show(&rt)?;
     calls::show(&rt)?;
-    journals::show(&rt)
+    journals::show(&rt)?;
+    selections::show(&rt)
 }
