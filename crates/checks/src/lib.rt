@@ -12,6 +12,8 @@ mod names;
 #[cfg(test)]
 mod records;
 #[cfg(test)]
+mod selections;
+#[cfg(test)]
 mod tables;
 #[cfg(test)]
 mod texts;
