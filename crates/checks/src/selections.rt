@@ -246,18 +246,23 @@ fn folder_tables_in_mid_course(rt: HostRuntime) {
         depth,
         label: LABEL,
     });
-    for (past, told, list, left) in [
-        (1, Some((20, 1, 1)), [0, 7], 2),
-        (2, Some((20, 0, 0)), [7, 7], 3),
-        (3, Some((20, 0, 0)), [7, 7], 2),
-        (4, None, [0, 7], 0),
-        (6, None, [7, 7], 0),
+    for (past, count, told, list, left) in [
+        (1, None, Some((20, 1, 1)), [0, 7], 2),
+        (2, None, Some((20, 0, 0)), [7, 7], 3),
+        (3, None, Some((20, 0, 0)), [7, 7], 2),
+        (4, Some(1), None, [0, 7], 0),
+        (6, Some(0), None, [7, 7], 0),
     ] {
         let mut source = FolderTable::new(&records);
         let _ = drained(&mut source, past);
         let mut numbers = [7; 2];
         let answer = select(&Rule::new(), &[], &mut source, &mut numbers);
-        assert_eq!(&rt; (refused(answer), numbers), (told, list), "after {past}");
+        assert_eq!(&rt;
+            (answer.ok(), refused(answer)),
+            (count, told),
+            "after {past}"
+        );
+        assert_eq!(&rt; numbers, list, "after {past}");
         assert_eq!(&rt; drained(&mut source, 9), (left, None), "after {past}");
     }
 }
