@@ -78,7 +78,7 @@ pub fn select<S: Source>(
 {
     let mut run = Run::new(rule);
     let mut reported = 0;
-    'feed: loop {
+    loop {
         match advance(&mut run, labels, source, &mut numbers[reported..]) {
             Ok(Some(taken)) => reported += taken,
             Ok(None) => return Ok(reported),
