@@ -32,7 +32,7 @@ cuts (x ∷ b₁) (y ∷ b₂) a₁ a₂ e₁ e₂ h =
 
 module _ {L : Type 0} where
   -- what accepted events say of one among them
-  open_accepted : (n : ℕ) (p : List ℕ) (es fs : List (Event L)) (l : L) → Accepts n p (es ++ Open l ∷ fs)
+  pub open_accepted : (n : ℕ) (p : List ℕ) (es fs : List (Event L)) (l : L) → Accepts n p (es ++ Open l ∷ fs)
       → (length (path_from n p es) < depth_limit) × (n + length (nodes_from n p es) < openings_limit)
   open_accepted n p [] fs l b = (b.0, let z : n < openings_limit = b.1 in omega arith)
   open_accepted n p (Open k ∷ es) fs l b =
@@ -41,7 +41,7 @@ module _ {L : Type 0} where
   open_accepted n [] (Close ∷ es) fs l b = absurd b
   open_accepted n (v ∷ p) (Close ∷ es) fs l b = open_accepted n p es fs l b
 
-  close_accepted : (n : ℕ) (p : List ℕ) (es fs : List (Event L)) → Accepts n p (es ++ Close ∷ fs) → path_from n p es ≡ [] → ⊥
+  pub close_accepted : (n : ℕ) (p : List ℕ) (es fs : List (Event L)) → Accepts n p (es ++ Close ∷ fs) → path_from n p es ≡ [] → ⊥
   close_accepted n [] [] fs b e = b
   close_accepted n (v ∷ p) [] fs b e = let z : ◌≡◌ {A = ℕ} 0 1 = cc in omega arith
   close_accepted n p (Open k ∷ es) fs b e = close_accepted (suc n) (n ∷ p) es fs b.2 e
@@ -49,7 +49,7 @@ module _ {L : Type 0} where
   close_accepted n (v ∷ p) (Close ∷ es) fs b e = close_accepted n p es fs b e
 
   -- a closing that finds an open node closes it
-  order_split : (n : ℕ) (p : List ℕ) (es fs : List (Event L)) (v : ℕ) (vs : List ℕ) → path_from n p es ≡ v ∷ vs
+  pub order_split : (n : ℕ) (p : List ℕ) (es fs : List (Event L)) (v : ℕ) (vs : List ℕ) → path_from n p es ≡ v ∷ vs
       → (ws : List ℕ) × (closing_order_from n p (es ++ Close ∷ fs) ≡ closing_order_from n p es ++ v ∷ ws)
   order_split n [] [] fs v vs e = let z : ◌≡◌ {A = ℕ} 0 1 = cc in absurd (omega arith)
   order_split n (u ∷ p) [] fs v vs e = let z : u ≡ v = cc in (closing_order_from n p fs, ap (λ (k : ℕ). k ∷ closing_order_from n p fs) z)

@@ -1,5 +1,5 @@
 -- Two picks of one list are the same, and a pick of two lists in a row splits.
-use Rattle.std.proofs.Common.{◌≡◌, ℕ, ◌<◌, List, [], ◌∷◌, ◌++◌, length, refl, ap, arith}
+use Rattle.std.proofs.Common.{◌≡◌, ℕ, ◌<◌, ◌≤◌, List, [], ◌∷◌, ◌++◌, length, refl, ap, arith}
 use Rattle.runs.specs.Picks.{Picks}
 
 pub picks_same : {P : ℕ → Type 0} {vs xs ys : List ℕ} → Picks P vs xs → Picks P vs ys → ys ≡ xs
@@ -36,3 +36,9 @@ picks_split (u ∷ us) vs (Picks.skip n k) =
 pub picks_some : {P : ℕ → Type 0} (v : ℕ) (vs : List ℕ) {xs : List ℕ} → P v → Picks P (v ∷ vs) xs → 0 < length xs
 picks_some v vs p (Picks.keep q k) = omega arith
 picks_some v vs p (Picks.skip n k) = absurd (n p)
+
+-- no more are picked than there are
+pub picks_short : {P : ℕ → Type 0} {vs xs : List ℕ} → Picks P vs xs → length xs ≤ length vs
+picks_short Picks.none = omega arith
+picks_short (Picks.keep p k) = let h = picks_short k in omega arith
+picks_short (Picks.skip n k) = let h = picks_short k in omega arith

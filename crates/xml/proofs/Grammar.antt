@@ -80,19 +80,19 @@ module _ (xs : List ℕ) where
       (is_reads content k r q others c names true ds end l (f.0, refl) d))
 
 -- from the reading to the grammar
-skips_within : (xs : List ℕ) (p q : ℕ) (names : List (List ℕ)) → Skipped xs p q names → q ≤ length xs
+pub skips_within : (xs : List ℕ) (p q : ℕ) (names : List (List ℕ)) → Skipped xs p q names → q ≤ length xs
 skips_within xs p q names (by_text b e h) = omega (arith, reaches xs p Text b (omega arith))
 skips_within xs p q names (by_comment b d) = comment_within xs p q d
 skips_within xs p q names (by_instruction b d) = instruction_within xs p q d
 
-opens_from : (xs : List ℕ) (p : ℕ) (names : List (List ℕ)) (rooted : Bool) (k : Markup) (n q : ℕ) (e : Bool) →
+pub opens_from : (xs : List ℕ) (p : ℕ) (names : List (List ℕ)) (rooted : Bool) (k : Markup) (n q : ℕ) (e : Bool) →
     Begins xs p k → Finds xs p names rooted k (opens n q e) → Begins xs p StartTag × Room names rooted × IsStart xs p n q e
 opens_from xs p names rooted k n q e b (start_found r i) = (b, r, i)
 
-start_within : (xs : List ℕ) (p n q : ℕ) (e : Bool) → IsStart xs p n q e → q ≤ length xs
+pub start_within : (xs : List ℕ) (p n q : ℕ) (e : Bool) → IsStart xs p n q e → q ≤ length xs
 start_within xs p n q e i = let g = i.ends in omega (arith, standing xs i.close (code ">") i.tag.closes (omega arith))
 
-closes_from : (xs : List ℕ) (p : ℕ) (w : List ℕ) (names : List (List ℕ)) (rooted : Bool) (k : Markup) (q : ℕ) →
+pub closes_from : (xs : List ℕ) (p : ℕ) (w : List ℕ) (names : List (List ℕ)) (rooted : Bool) (k : Markup) (q : ℕ) →
     Begins xs p k → Finds xs p (w ∷ names) rooted k (closes q) → Begins xs p EndTag × ((n : ℕ) × (part xs (p + 2) n ≡ w) × IsEnd xs p n q)
 closes_from xs p w names rooted k q b (end_found {n = n} i d) = (b, (n, i, d))
 
