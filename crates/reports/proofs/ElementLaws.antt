@@ -8,20 +8,23 @@ use Rattle.rules.specs.declared.syntax.ParsedNode.{ParsedNode}
 use Rattle.rules.specs.RuleNodes.{plain_nodes}
 use Rattle.rules.specs.TestNames.{test_names}
 use Rattle.rules.specs.Embedding.{Nodes, OccursIn}
-use Rattle.rules.specs.Expression.{SelectedIn}
+use Rattle.rules.specs.XPath.{LocationPath}
+use Rattle.rules.specs.Expression.{TextStandsFor, SelectedIn}
 use Rattle.rules.proofs.TestNames.{selects_by_bytes}
 use Rattle.runs.specs.Picks.{In, Once, Picks}
 use Rattle.sources.specs.declared.event.Event.{Event}
 use Rattle.sources.specs.Forest.{Forest, events_of, size, nodes_of}
 use Rattle.sources.specs.Forest.Forest.{none, tree}
 use Rattle.sources.specs.Nodes.{nodes, closing_order}
+use Rattle.sources.proofs.ForestNodes.{forest_nodes}
 use Rattle.selection.specs.Answers.{Answer, done}
 use Rattle.selection.specs.Selection.{Reported, Selects}
 use Rattle.selection.proofs.ClosingOrder.{closed_is_node, parents_first}
+use Rattle.xml.specs.Documents.{Document}
 use Rattle.xml.proofs.Grammar.{done_document}
 use Rattle.reports.specs.declared.report.Report.{Report}
 use Rattle.reports.specs.Reports.{Asks, SelectedBy, Reports}
-use Rattle.reports.specs.Elements.{SelectsElements}
+use Rattle.reports.specs.Elements.{Elements, SelectsElements}
 use Rattle.reports.proofs.ReportLaws.{concludes_ok}
 
 -- as many nodes as the trees have
@@ -68,36 +71,42 @@ module _ (bs line listing before after : List ℕ) (ns : List ParsedNode) (repor
       ap (λ (k : ℕ). take k after) end.count ∙ ap (take (length s.selection.reported)) f.list
       ∙ take-append_seam s.selection.reported (drop (length s.selection.reported) before)
 
-  pub selects_elements : SelectsElements bs (take report.reported after)
-  selects_elements =
-      let doc = (done_document listing es s.ending s.reads).only_documents end.done_then in
+  pub elements : (p : LocationPath) → TextStandsFor line p → (trees : Forest (List ℕ)) → Document listing trees → Elements p trees (take report.reported after)
+  elements p stands trees document =
+      let all = (done_document listing es s.ending s.reads).all_documents trees document in
       let text = selects_by_bytes bytes_eq line ns asks.gives in
+      let nodes_are : nodes es ≡ nodes_of None 0 trees = ap nodes all.1 ∙ forest_nodes trees in
       let O : ℕ → Type 0 = OccursIn bytes_eq (plain_nodes ns) (test_names line ns) (nodes es) in
-      let count : length (nodes es) ≡ size doc.0 = ap length doc.3 ∙ forest_size doc.0 None 0 in
-      let X : Nodes (List ℕ) → ℕ → Type 0 = λ ks v. SelectedIn (λ w. w) bytes_eq ks text.0.0 v in
-      let both : (v : ℕ) → v < length (nodes es) → X (nodes es) v ↔ O v = λ v h. text.1 text.0.0 text.0.1 (nodes es) (parents_first es) v h in
-      let here : (v : ℕ) → In v s.selection.reported ↔ ((v < size doc.0) × X (nodes_of None 0 doc.0) v) = λ v. (
-        λ i. let o = (end.exact v).0 i in (let h = o.0 in omega arith, subst (λ ks. X ks v) doc.3 ((both v o.0).1 o.1)),
-        λ o. let h : v < length (nodes es) = (let b = o.0 in omega arith) in (end.exact v).1 (h, (both v h).0 (subst (λ ks. X ks v) (sym doc.3) o.1)),
+      let count : length (nodes es) ≡ size trees = ap length nodes_are ∙ forest_size trees None 0 in
+      let X : Nodes (List ℕ) → ℕ → Type 0 = λ ks v. SelectedIn (λ w. w) bytes_eq ks p v in
+      let both : (v : ℕ) → v < length (nodes es) → X (nodes es) v ↔ O v = λ v h. text.1 p stands (nodes es) (parents_first es) v h in
+      let here : (v : ℕ) → In v s.selection.reported ↔ ((v < size trees) × X (nodes_of None 0 trees) v) = λ v. (
+        λ i. let o = (end.exact v).0 i in (let h = o.0 in omega arith, subst (λ ks. X ks v) nodes_are ((both v o.0).1 o.1)),
+        λ o. let h : v < length (nodes es) = (let b = o.0 in omega arith) in (end.exact v).1 (h, (both v h).0 (subst (λ ks. X ks v) (sym nodes_are) o.1)),
       ) in
       let k : Picks (λ v. In v s.selection.reported) (closing_order es) s.selection.reported =
       picks_by_members end.told.picked s.selection.reported (λ v i. (
         λ o. (end.exact v).1 (closed_is_node es end.told.accepted v i, o),
         λ j. ((end.exact v).0 j).1,
       )) in
-      let P : List ℕ → Type 0 = λ vs. (v : ℕ) → In v vs ↔ ((v < size doc.0) × X (nodes_of None 0 doc.0) v) in
+      let P : List ℕ → Type 0 = λ vs. (v : ℕ) → In v vs ↔ ((v < size trees) × X (nodes_of None 0 trees) v) in
       let K : List (Event (List ℕ)) → List ℕ → Type 0 = λ xs vs. Picks (λ v. In v vs) (closing_order xs) vs in
+      record {
+        exactly = subst P (sym front) here;
+        once = subst Once (sym front) end.told.once;
+        order = subst (λ vs. K (events_of trees) vs) (sym front) (subst (λ xs. K xs s.selection.reported) all.1 k);
+      }
+
+  pub selects_elements : SelectsElements bs (take report.reported after)
+  selects_elements =
+      let doc = (done_document listing es s.ending s.reads).only_documents end.done_then in
       record {
         line = line;
         listing = listing;
         split = asks.split;
-        expression = text.0.0;
-        stands = text.0.1;
-        tree = doc.0;
-        document = doc.1;
-        exactly = subst P (sym front) here;
-        once = subst Once (sym front) end.told.once;
-        order = subst (λ vs. K (events_of doc.0) vs) (sym front) (subst (λ xs. K xs s.selection.reported) doc.2 k);
+        some_expression = (selects_by_bytes bytes_eq line ns asks.gives).0;
+        some_document = (doc.0, doc.1);
+        selected = elements;
       }
 
 pub reports_elements : (bs before after : List ℕ) (report : Report) → Reports bs before report after → report.verdict ≡ Ok tt → SelectsElements bs (take report.reported after)

@@ -9,16 +9,19 @@ use Rattle.sources.specs.Nodes.{closing_order}
 use Rattle.xml.specs.Documents.{Document}
 use Rattle.reports.specs.Parts.{Splits}
 
--- The first line of bs stands for an expression, and what is behind it is a document. The numbers are those of exactly the elements of
--- the document that the expression selects, each once, in the order in which the elements end.
+-- The numbers are those of exactly the elements of the trees that the expression selects, each once, in the order in which the elements
+-- end.
+pub record Elements (expression : LocationPath) (trees : Forest (List ℕ)) (numbers : List ℕ) : Type 0 where
+  pub exactly : (v : ℕ) → In v numbers ↔ ((v < size trees) × SelectedIn (λ w. w) bytes_eq (nodes_of None 0 trees) expression v)
+  pub once : Once numbers
+  pub order : Picks (λ v. In v numbers) (closing_order (events_of trees)) numbers
+
+-- The first line of bs stands for an expression, and what is behind it is a document. Whichever expression and trees these are, the
+-- numbers are those of the elements that it selects in them.
 pub record SelectsElements (bs numbers : List ℕ) : Type 0 where
   pub line : List ℕ
   pub listing : List ℕ
   pub split : Splits 10 bs line listing
-  pub expression : LocationPath
-  pub stands : TextStandsFor line expression
-  pub tree : Forest (List ℕ)
-  pub document : Document listing tree
-  pub exactly : (v : ℕ) → In v numbers ↔ ((v < size tree) × SelectedIn (λ w. w) bytes_eq (nodes_of None 0 tree) expression v)
-  pub once : Once numbers
-  pub order : Picks (λ v. In v numbers) (closing_order (events_of tree)) numbers
+  pub some_expression : (p : LocationPath) × TextStandsFor line p
+  pub some_document : (trees : Forest (List ℕ)) × Document listing trees
+  pub selected : (p : LocationPath) → TextStandsFor line p → (trees : Forest (List ℕ)) → Document listing trees → Elements p trees numbers

@@ -1,4 +1,4 @@
--- The bytes of the tests of a rule text.
+-- The bytes of the tests of a rule text; of a test that is any, the byte `*`, which no label is compared with.
 use Rattle.std.specs.Prelude.{ℕ, List, map}
 use Rattle.rules.specs.declared.syntax.ParsedNode.{ParsedNode}
 use Rattle.rules.specs.Expression.{token_bytes}

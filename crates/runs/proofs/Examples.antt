@@ -16,7 +16,8 @@ use Rattle.rules.proofs.Answering.{fit, accepting}
 use Rattle.rules.proofs.Formed.{given_some, given_ordered}
 use Rattle.runs.specs.declared.call.Call.{Call}
 use Rattle.runs.specs.Model.{Model, empty}
-use Rattle.runs.specs.Examples.{names, Reports, WorkedTrees}
+use Rattle.runs.specs.Examples.{Reports, WorkedTrees}
+use Rattle.rules.specs.TestNames.{test_names}
 use Rattle.runs.proofs.OccursTest.{holds, holds_decides, after_all, all_accepted, plays}
 
 -- the label l meets the test of rule node x
@@ -41,7 +42,7 @@ module _ (text : List ℕ) (calls : List (Call (List ℕ))) (numbers : List ℕ)
   rule = plain_nodes parsed
 
   abbrev labels : List (List ℕ)
-  labels = names text parsed
+  labels = test_names text parsed
 
   abbrev test : List ℕ → ℕ → Bool
   test = meets_test rule labels

@@ -1,10 +1,10 @@
 -- Examples of rules and trees, as the reference model judges them.
-use Rattle.std.specs.Prelude.{◌≡◌, ℕ, ◌||◌, ◌==◌, if◌then◌else◌, List, [], ◌∷◌, ◌++◌, map, slice_index, bytes_eq, codes}
+use Rattle.std.specs.Prelude.{◌≡◌, ℕ, ◌||◌, ◌==◌, if◌then◌else◌, List, [], ◌∷◌, ◌++◌, slice_index, bytes_eq, codes}
 use Rattle.std.specs.List.{AllByRecursion}
 use Rattle.std.specs.Str.{byte}
 use Rattle.rules.specs.declared.syntax.ParsedNode.{ParsedNode}
 use Rattle.rules.specs.Embedding.{Meets}
-use Rattle.rules.specs.Expression.{token_bytes}
+use Rattle.rules.specs.TestNames.{test_names}
 use Rattle.rules.specs.RuleNodes.{plain_nodes}
 use Rattle.rules.specs.Texts.{TextGives}
 use Rattle.runs.specs.declared.call.Call.{Call}
@@ -28,17 +28,13 @@ abbrev pub tree : List ℕ → List (Call (List ℕ))
 tree [] = []
 tree (b ∷ bs) = calls_of b (slice_index bs 0) ++ tree bs
 
--- the labels of the tests: the bytes of each name, and a star where any is met
-abbrev pub names : List ℕ → List ParsedNode → List (List ℕ)
-names text ns = map (λ n. token_bytes text n.test) ns
-
 -- The text gives a rule, and the calls, all accepted, from the empty model on until nothing is open, select the nodes with these
 -- numbers, in closing order. Labels are names, as their bytes.
 abbrev pub Reports : List ℕ → List (Call (List ℕ)) → List ℕ → Type 0
 Reports text calls numbers =
     (ns : List ParsedNode) × TextGives text ns
     × (ts : List Told) × (m : Model (List ℕ))
-    × Plays (plain_nodes ns) (Meets bytes_eq (plain_nodes ns) (names text ns)) empty calls ts m
+    × Plays (plain_nodes ns) (Meets bytes_eq (plain_nodes ns) (test_names text ns)) empty calls ts m
     × AllByRecursion Accepted ts × (m.path ≡ []) × (m.handed ++ m.waiting ≡ numbers)
 
 -- the trees of some texts; nodes are numbered from 0 on as they are opened

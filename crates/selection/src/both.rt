@@ -1,4 +1,5 @@
 //! Selection from two sources, side by side.
+ghost use Rattle.std.specs.Prelude.{◌≡◌};
 ghost use Rattle.rules.specs.RuleNodes.{rule_nodes};
 ghost use Rattle.selection.specs.Answers.{answered};
 ghost use Rattle.selection.specs.Selection.{Selection};
@@ -30,6 +31,8 @@ pub fn select_both<S: Source, T: Source<Label = S::Label>>(
         ones.old (answered result.first) ones.new (S.events first.new) }
     ensures second { Selection S.Label.eq (rule_nodes rule.now) labels.now (T.events second.old) (T.ending second.old)
         twos.old (answered result.second) twos.new (T.events second.new) }
+    ensures first_ending { S.ending first.new ≡ S.ending first.old }
+    ensures second_ending { T.ending second.new ≡ T.ending second.old }
     ensures alike { PairedAlike S.Label.eq (S.events first.old) (T.events second.old) (answered result.first) (answered result.second) ones.new twos.new }
 {
     Both {
