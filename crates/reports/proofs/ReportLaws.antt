@@ -1,5 +1,5 @@
 -- What is reported of an input.
-use Rattle.std.proofs.Common.{Option, Result, Ok, ◌≡◌, ℕ, ◌≤◌, Bool, false, List, [], length, take, map, Err, refl, ap, subst, arith}
+use Rattle.std.proofs.Common.{Option, Result, Ok, ◌≡◌, ℕ, ◌≤◌, Bool, false, List, [], length, take, map, Err, refl, subst, arith}
 use Rattle.std.specs.Str.{bytes_eq}
 use Rattle.labels.specs.Names.{bytes_of}
 use Rattle.labels.specs.declared.name.Name.{Name}
@@ -29,7 +29,7 @@ use Rattle.reports.specs.declared.refusal.Refusal.{Refusal}
 use Rattle.reports.specs.declared.refusal.Refusal.TheVariants as refusal
 use Rattle.reports.specs.declared.report.Report.{Report}
 use Rattle.reports.specs.Parts.{Splits}
-use Rattle.reports.specs.Refusals.{input_limit, number_and_place, Ends}
+use Rattle.reports.specs.Refusals.{input_limit, Ends}
 use Rattle.reports.specs.Reports.{Bad, QuestionOf, Concludes, SelectedBy, Reports}
 
 -- with a long enough list the text is at fault
@@ -40,9 +40,6 @@ text_refused few (by_text h r) = r
 pub rule_refused : {N : Type 0} {f : TextRefusal} {rule rule' : Rule} {before after : List N} (bs line rest : List ℕ)
     → Unread line f rule rule' before after → node_limit ≤ length before → length bs ≤ input_limit → Splits 10 bs line rest → Bad bs (refusal.Rule f)
 rule_refused {f = f} bs line rest u few short splits = Bad.bad_rule f short splits (text_refused few u.refused.holds)
-
-pub bad_reported : (bs before : List ℕ) (r : Refusal) (report : Report) → report ≡ record { reported = 0; verdict = Err r } → Bad bs r → Reports bs before report before
-bad_reported bs before r report e b = rw e (Reports.bad r b)
 
 -- a selection by labels is one by the bytes of names
 module _ (same : Name → Name → Bool) (tied : (a b : Name) → same a b ≡ bytes_eq (bytes_of a) (bytes_of b)) (bs : List ℕ) (q : Question) (asked : QuestionOf bs q) where
@@ -77,7 +74,7 @@ concludes_done n count answer report a e = rw (a, e) (Concludes.finished count)
 by_cause : (n : ℕ) (cause : Cause XmlFault) (r : Refusal) (openings count : ℕ) → Ends cause n r
     → Concludes n (ended_by cause openings count) (record { reported = count; verdict = Err r })
 by_cause n (Fault f) r openings count e = rw e (Concludes.fault f openings count)
-by_cause n (Refused k) r openings count e = Concludes.refusal r (number k) openings count (ap number_and_place e)
+by_cause n (Refused k) r openings count e = rw e (Concludes.refusal k (number k) openings count refl)
 
 pub concludes_by : (n : ℕ) (answer : Result ℕ (SelectFault XmlFault)) (f : SelectFault XmlFault) (r : Refusal) (report : Report) → answer ≡ Err f
     → Ends f.cause n r → report ≡ record { reported = f.reported; verdict = Err r } → Concludes n (answered answer) report

@@ -11,16 +11,17 @@ use Rattle.rules.specs.ReadText.{NamesIn}
 use Rattle.rules.specs.TestNames.{test_names}
 use Rattle.rules.specs.Texts.{TextGives, TextRefused}
 use Rattle.sources.specs.declared.event.Event.{Event}
-use Rattle.selection.specs.Answers.{Answer, done, faulted, refused}
+use Rattle.selection.specs.Answers.{Answer, done, faulted, refused, number}
 use Rattle.selection.specs.Selection.{Selection}
+use Rattle.selection.specs.declared.refusal.Refusal.{Refusal as SelectRefusal}
 use Rattle.xml.specs.Reading.{Reads}
 use Rattle.xml.specs.declared.fault.XmlFault.{XmlFault}
 use Rattle.reports.specs.declared.question.Question.{Question}
 use Rattle.reports.specs.declared.refusal.Refusal.{Refusal}
-use Rattle.reports.specs.declared.refusal.Refusal.TheVariants.{Input, Rule, Listing}
+use Rattle.reports.specs.declared.refusal.Refusal.TheVariants.{Input, Rule, Listing, Selection as selecting}
 use Rattle.reports.specs.declared.report.Report.{Report}
 use Rattle.reports.specs.Parts.{Splits}
-use Rattle.reports.specs.Refusals.{input_limit, number_and_place}
+use Rattle.reports.specs.Refusals.{input_limit}
 
 -- An input that is too long, or whose rule text, up to the first byte 10, is refused
 pub data Bad (bs : List ℕ) : Refusal → Type 0 where
@@ -47,8 +48,8 @@ pub record QuestionOf (bs : List ℕ) (q : Question) : Type 0 where
 pub data Concludes (n : ℕ) : Answer XmlFault → Report → Type 0 where
   finished : (count : ℕ) → Concludes n (done count) (record { reported = count; verdict = Ok tt })
   fault : (f : XmlFault) (openings count : ℕ) → Concludes n (faulted f openings count) (record { reported = count; verdict = Err (Listing f) })
-  refusal : (r : Refusal) (k openings count : ℕ) → number_and_place r ≡ (k, n)
-      → Concludes n (refused k openings count) (record { reported = count; verdict = Err r })
+  refusal : (r : SelectRefusal) (k openings count : ℕ) → number r ≡ k
+      → Concludes n (refused k openings count) (record { reported = count; verdict = Err (selecting r n) })
 
 -- A listing of these bytes is selected from, with the rule nodes and the names of a rule text's tests, into a list that was `before` and
 -- is `after`. Labels are the names as bytes.
@@ -67,3 +68,8 @@ pub data Reports (bs before : List ℕ) : Report → List ℕ → Type 0 where
   bad : (r : Refusal) → Bad bs r → Reports bs before (record { reported = 0; verdict = Err r }) before
   selected : {line listing after : List ℕ} {ns : List ParsedNode} {report : Report} → Asks bs line ns listing
       → SelectedBy line ns listing before report after → Reports bs before report after
+
+-- An input is reported so, and in no other way.
+pub data OnlyReports (bs before : List ℕ) (report : Report) (after : List ℕ) : Type 0 where
+  only : Reports bs before report after → ((r : Report) (a : List ℕ) → Reports bs before r a → (r ≡ report) × (a ≡ after))
+      → OnlyReports bs before report after

@@ -2,7 +2,7 @@
 ghost use Rattle.std.specs.Prelude.{◌≡◌, ℕ, ◌≤◌, List, length, take, Ok};
 ghost use Rattle.selection.specs.Answers.{answered};
 ghost use Rattle.reports.specs.Elements.{SelectsElements};
-ghost use Rattle.reports.specs.Reports.{QuestionOf, Concludes, Reports};
+ghost use Rattle.reports.specs.Reports.{QuestionOf, Concludes, Reports, OnlyReports};
 
 use crate::question::Question;
 use crate::refusal::Refusal;
@@ -49,9 +49,9 @@ fn answer(question: &Question, numbers: &mut [u32]) -> Report
 }
 
 /// Reads an input, and selects. The numbers to report stand at the front of the list.
-#[tactic(auto, using(crate::proofs::ReportLaws::bad_reported))]
+#[tactic(auto, using(crate::proofs::OneReport::bad_only))]
 pub fn report_on(input: &[u8], numbers: &mut [u32]) -> Report
-    ensures reports { Reports input.now numbers.old result numbers.new }
+    ensures reports { OnlyReports input.now numbers.old result numbers.new }
     ensures fits { result.reported ≤ length numbers.old }
     ensures elements { result.verdict ≡ Ok tt → SelectsElements input.now (take result.reported numbers.new) }
 {

@@ -29,13 +29,13 @@ accepting bs ns fits e = gives fits (lexes bs) (subst (Right (lex 0 0 bs)) e (an
 ------------------------------------------------------------------------
 -- a text has one answer
 
-gives_same : {bs : List ℕ} {ns ms : List ParsedNode} → TextGives bs ns → TextGives bs ms → ns ≡ ms
+pub gives_same : {bs : List ℕ} {ns ms : List ParsedNode} → TextGives bs ns → TextGives bs ms → ns ≡ ms
 gives_same {bs} {ns} {ms} (gives {ts = ts} f l a) (gives {ts = us} g k b) =
     let q : us ≡ ts = unique k ∙ sym (unique l) in
     let e : to (ended ns) ≡ to (ended ms) = sym (complete a.formed) ∙ complete (subst (λ x. Text x ms) q b.formed) in
     cc
 
-never_both : {bs : List ℕ} {ns : List ParsedNode} {x : ℕ × ℕ} → TextGives bs ns → TextRefused bs x → ⊥
+pub never_both : {bs : List ℕ} {ns : List ParsedNode} {x : ℕ × ℕ} → TextGives bs ns → TextRefused bs x → ⊥
 never_both (gives f l a) (unfit u) = f u
 never_both (gives {ts = ts} f l a) (refused {ts = us} g m r) =
     let q : ts ≡ us = unique l ∙ sym (unique m) in
@@ -75,7 +75,7 @@ refused_same {ts} {k} {p} {j} {q} r s =
       | inr (inr h) ↦ absurd (r.clear s.before s.at h.0 j h.1 s.offends)
     ]
 
-turned_same : {bs : List ℕ} {x y : ℕ × ℕ} → TextRefused bs x → TextRefused bs y → x ≡ y
+pub turned_same : {bs : List ℕ} {x y : ℕ × ℕ} → TextRefused bs x → TextRefused bs y → x ≡ y
 turned_same (unfit u) (unfit v) = refl
 turned_same (unfit u) (refused g m s) = absurd (g u)
 turned_same (refused f l r) (unfit v) = absurd (f v)
