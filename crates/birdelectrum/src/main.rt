@@ -5,13 +5,10 @@
 mod tests;
 
 use reports::refusal::{INPUT_LIMIT, Refusal};
-use reports::report::{Report, report_on};
+use reports::report::{NUMBERS_LIMIT, Report, report_on};
 use std::alloc::{AllocError, Global};
 use std::io;
 use std::io::{Read, Write};
-
-// The numbers that the list for them holds: no input has more to report.
-const LIST: usize = 16_384;
 
 // What the program prints. Lines are formatted and pushed, since the error of a push is that of memory, and that of `write!` is not.
 fn text(heap: Global, numbers: &[u32], verdict: Result<(), Refusal>) -> Result<String, AllocError> {
@@ -34,7 +31,7 @@ fn main(rt: HostRuntime) -> io::Result<()> {
     rt.stdin()
         .take(INPUT_LIMIT as u64 + 1)
         .read_to_end(&mut input)?;
-    let mut numbers = vec![in rt.alloc(); 0u32; LIST]?;
+    let mut numbers = vec![in rt.alloc(); 0u32; NUMBERS_LIMIT]?;
     let Report { reported, verdict } = report_on(&input, &mut numbers);
     let text = text(rt.alloc(), &numbers[..reported], verdict)?;
     rt.stdout().write_all(text.as_bytes())

@@ -22,7 +22,7 @@ use Rattle.xml.specs.declared.fault.XmlFault.{XmlFault}
 use Rattle.xml.proofs.Between.{skips_from, Skipped}
 use Rattle.xml.proofs.Grammar.{skips_within, opens_from, start_within, closes_from}
 use Rattle.reports.specs.declared.report.Report.{Report}
-use Rattle.reports.specs.Refusals.{input_limit}
+use Rattle.reports.specs.Refusals.{input_limit, numbers_limit}
 use Rattle.reports.specs.Reports.{Concludes, SelectedBy}
 
 -- how long tags are at least
@@ -155,7 +155,7 @@ module _ {L : Type 0} (same : L → L → Bool) (rule : List RuleNode) (labels :
 
 -- A selection from a listing that is not too long is not refused, if the list has room for a number to every four bytes.
 pub listing_unrefused : (line : List ℕ) (ns : List ParsedNode) (listing before after : List ℕ) (report : Report)
-    (s : SelectedBy line ns listing before report after) → length listing ≤ input_limit → 16384 ≤ length before
+    (s : SelectedBy line ns listing before report after) → length listing ≤ input_limit → numbers_limit ≤ length before
     → (k o c : ℕ) → s.answer ≡ refused k o c → ⊥
 listing_unrefused line ns listing before after report s short wide k o c =
     let few = few_closings listing s.events s.ending s.reads in
@@ -174,7 +174,7 @@ whole same rule labels room es end n d (Selects.refusal before after x j vs q t 
 
 -- Then a listing without a fault is selected from to its end.
 pub whole_or_fault : (line : List ℕ) (ns : List ParsedNode) (listing before after : List ℕ) (report : Report)
-    (s : SelectedBy line ns listing before report after) → length listing ≤ input_limit → 16384 ≤ length before
+    (s : SelectedBy line ns listing before report after) → length listing ≤ input_limit → numbers_limit ≤ length before
     → s.ending ≡ None → report.verdict ≡ Ok tt
 whole_or_fault line ns listing before after report s short wide e =
     whole bytes_eq (plain_nodes ns) (test_names line ns) (length before) s.events s.ending (length listing) e s.selection.selects

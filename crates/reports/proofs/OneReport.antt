@@ -25,9 +25,10 @@ use Rattle.reports.specs.declared.refusal.Refusal.{Refusal}
 use Rattle.reports.specs.declared.refusal.Refusal.TheVariants as refusal
 use Rattle.reports.specs.declared.report.Report.{Report}
 use Rattle.reports.specs.Parts.{FirstAt, Splits}
-use Rattle.reports.specs.Refusals.{input_limit}
+use Rattle.reports.specs.Refusals.{input_limit, numbers_limit}
+use Rattle.reports.specs.Elements.{WithRoom}
 use Rattle.reports.specs.Reports.{Bad, Asks, Concludes, SelectedBy, Reports, OnlyReports}
-use Rattle.reports.proofs.Fitting.{whole_or_fault}
+use Rattle.reports.proofs.Fitting.{listing_unrefused, whole_or_fault}
 
 -- a byte is first at one place
 one_place : (b : ℕ) (bs : List ℕ) (m n : ℕ) → FirstAt b bs m → FirstAt b bs n → m ≤ n
@@ -155,7 +156,7 @@ bad_only bs before r report e b = rw e (only_report bs before before _ (Reports.
 -- Where the listing of an input is a document, and the list has room for a number to every four bytes of an input, the selection finishes.
 pub finishes : (bs before after : List ℕ) (report : Report) → Reports bs before report after
     → (line listing : List ℕ) (ns : List ParsedNode) (trees : Forest (List ℕ)) → Asks bs line ns listing → Document listing trees
-    → 16384 ≤ length before → report.verdict ≡ Ok tt
+    → numbers_limit ≤ length before → report.verdict ≡ Ok tt
 finishes bs before after report (Reports.bad r b) line listing ns trees asks doc wide = absurd (bad_or_asks bs line listing ns b asks)
 finishes bs before after report (Reports.selected {line = l} {listing = xs} {ns = ms} a s) line listing ns trees asks doc wide =
     let e : listing ≡ xs = (one_split a.split asks.split).1 in
@@ -164,3 +165,33 @@ finishes bs before after report (Reports.selected {line = l} {listing = xs} {ns 
     let second = a.split.second_is in
     let short : length xs ≤ input_limit = omega (arith, ap length second, length-drop (a.split.at + 1) bs) in
     whole_or_fault l ms xs before after report s short wide d.0
+
+-- The report of a selection that was not refused has no such refusal.
+not_refused : (n : ℕ) {a : Answer XmlFault} {report : Report} → Concludes n a report → ((k o c : ℕ) → a ≡ Answer.refused k o c → ⊥)
+    → (r : SelectRefusal) (m : ℕ) → report.verdict ≡ Err (refusal.Selection r m) → ⊥
+not_refused n (Concludes.finished count) never r m e = let z : ⊥ = cc in z
+not_refused n (Concludes.fault f o count) never r m e = let z : ⊥ = cc in z
+not_refused n (Concludes.refusal s k o count q) never r m e = never k o count refl
+
+bad_other : (bs : List ℕ) {x : Refusal} → Bad bs x → (r : SelectRefusal) (m : ℕ) → x ≡ refusal.Selection r m → ⊥
+bad_other bs (Bad.too_long l) r m e = let z : ⊥ = cc in z
+bad_other bs (Bad.bad_rule f l s t) r m e = let z : ⊥ = cc in z
+
+unrefused : (bs before after : List ℕ) (report : Report) → Reports bs before report after → numbers_limit ≤ length before
+    → (r : SelectRefusal) (m : ℕ) → report.verdict ≡ Err (refusal.Selection r m) → ⊥
+unrefused bs before after report (Reports.bad x b) wide r m e = let z : x ≡ refusal.Selection r m = cc in bad_other bs b r m z
+unrefused bs before after report (Reports.selected {line = l} {listing = xs} {ns = ms} a s) wide r m e =
+    let f = a.fits in
+    let second = a.split.second_is in
+    let short : length xs ≤ input_limit = omega (arith, ap length second, length-drop (a.split.at + 1) bs) in
+    not_refused (length xs) s.concludes (listing_unrefused l ms xs before after report s short wide) r m e
+
+pub with_room : (bs before after : List ℕ) (report : Report) → Reports bs before report after → numbers_limit ≤ length before → WithRoom bs report
+with_room bs before after report r wide =
+    WithRoom.with_room (unrefused bs before after report r wide) (λ line listing ns trees asks doc. finishes bs before after report r line listing ns trees asks doc wide)
+
+pub bad_room : (bs before : List ℕ) (r : Refusal) (report : Report) → report ≡ record { reported = 0; verdict = Err r } → Bad bs r
+    → numbers_limit ≤ length before → WithRoom bs report
+bad_room bs before r report e b wide = with_room bs before before report (let P : Report → Type 0 = λ x. Reports bs before x before in subst P (sym e) (Reports.bad r b)) wide
+
+pub ruleset bad_laws = (bad_only, bad_room)

@@ -14,6 +14,10 @@ use Rattle.reports.specs.declared.refusal.Refusal.TheVariants.{Input, Rule, List
 abbrev pub input_limit : ℕ
 input_limit = 65536
 
+-- how many numbers an input has to report at most
+abbrev pub numbers_limit : ℕ
+numbers_limit = 16384
+
 -- A refused selection has its place at the end of the listing.
 abbrev pub number_and_place : Refusal → ℕ × ℕ
 number_and_place Input = (50, input_limit)

@@ -1,7 +1,8 @@
 //! What is reported of an input.
 ghost use Rattle.std.specs.Prelude.{◌≡◌, ℕ, ◌≤◌, List, length, take, Ok};
 ghost use Rattle.selection.specs.Answers.{answered};
-ghost use Rattle.reports.specs.Elements.{SelectsElements};
+ghost use Rattle.reports.specs.Refusals.{numbers_limit};
+ghost use Rattle.reports.specs.Elements.{WithRoom, SelectsElements};
 ghost use Rattle.reports.specs.Reports.{QuestionOf, Concludes, Reports, OnlyReports};
 
 use crate::question::Question;
@@ -10,6 +11,9 @@ use selection::refusal::SelectFault;
 use selection::select::select;
 use xml::fault::XmlFault;
 use xml::reader::Xml;
+
+/// The numbers that an input has to report, at most.
+pub const NUMBERS_LIMIT: usize = 16_384;
 
 /// How many numbers are reported, and whether the input is refused. A count, and not the filled part of the caller's list: the list stays
 /// lent no longer than the call.
@@ -49,10 +53,11 @@ fn answer(question: &Question, numbers: &mut [u32]) -> Report
 }
 
 /// Reads an input, and selects. The numbers to report stand at the front of the list.
-#[tactic(auto, using(crate::proofs::OneReport::bad_only))]
+#[tactic(auto, using(crate::proofs::OneReport::bad_laws))]
 pub fn report_on(input: &[u8], numbers: &mut [u32]) -> Report
     ensures reports { OnlyReports input.now numbers.old result numbers.new }
     ensures fits { result.reported ≤ length numbers.old }
+    ensures room { numbers_limit ≤ length numbers.old → WithRoom input.now result }
     ensures elements { result.verdict ≡ Ok tt → SelectsElements input.now (take result.reported numbers.new) }
 {
     match Question::read(input) {

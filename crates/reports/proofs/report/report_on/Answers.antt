@@ -1,6 +1,6 @@
 use Rattle.reports.proofs.ElementLaws.{reports_elements}
 use Rattle.reports.proofs.ReportLaws.{reports_fit}
-use Rattle.reports.proofs.OneReport.{only_report}
+use Rattle.reports.proofs.OneReport.{only_report, with_room}
 use Rattle.reports.proofs.report.report_on.Goals as goal
 
 pub returns-in-Ok-clause-reports : goal.returns-in-Ok-clause-reports
@@ -11,3 +11,6 @@ returns-in-Ok-clause-fits c = reports_fit _ _ _ _ (c.answer.ensures _ c.in-Ok.en
 
 pub returns-in-Ok-clause-elements : goal.returns-in-Ok-clause-elements
 returns-in-Ok-clause-elements c = reports_elements _ _ _ _ (c.answer.ensures _ c.in-Ok.ensures)
+
+pub returns-in-Ok-clause-room : goal.returns-in-Ok-clause-room
+returns-in-Ok-clause-room c = with_room _ _ _ _ (c.answer.ensures _ c.in-Ok.ensures)
