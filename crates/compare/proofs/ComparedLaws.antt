@@ -12,7 +12,7 @@ use Rattle.labels.specs.declared.name.Name.{Name}
 use Rattle.rules.specs.Embedding.{Nodes, ParentsFirst}
 use Rattle.rules.specs.RuleNodes.{rule_nodes, plain_nodes}
 use Rattle.rules.specs.TestNames.{test_names}
-use Rattle.runs.specs.Picks.{In}
+use Rattle.runs.specs.Picks.{In, Once}
 use Rattle.sources.specs.declared.event.Event.{Event}
 use Rattle.sources.specs.Events.{MeansOnly}
 use Rattle.sources.specs.Nodes.{nodes}
@@ -21,7 +21,7 @@ use Rattle.selection.specs.Selection.{Selection}
 use Rattle.selection.specs.Pairing.{partner, Pairing, SameReport}
 use Rattle.selection.proofs.ClosingOrder.{parents_first}
 use Rattle.selection.proofs.Mapped.{relabelled, there, back, nodes_from_map}
-use Rattle.selection.proofs.Pairs.{paired_alike, reported_within}
+use Rattle.selection.proofs.Pairs.{paired_alike, reported_within, reported_once}
 use Rattle.xml.specs.Reading.{Reads}
 use Rattle.xml.specs.Means.{xml_events, xml_ending, xml_spelled, spelled}
 use Rattle.xml.specs.declared.fault.XmlFault.{XmlFault}
@@ -97,15 +97,15 @@ module _ (one two : Nodes Name) (es ds : List (Event (List ℕ)))
       }
 
   agrees : (f g : ℕ → ℕ) → Pairing bytes_eq (nodes es) (nodes ds) f g → (ones twos : List ℕ) → SameReport f (length (nodes es)) ones twos
-      → ((u : ℕ) → In u ones → u < length (nodes es)) → ((w : ℕ) → In w twos → w < length (nodes ds)) → Agree one ones two twos
-  agrees f g p ones twos r low₁ low₂ =
+      → ((u : ℕ) → In u ones → u < length (nodes es)) → ((w : ℕ) → In w twos → w < length (nodes ds)) → Once ones → Once twos → Agree one ones two twos
+  agrees f g p ones twos r low₁ low₂ once₁ once₂ =
       let c₁ = count one es nodes₁ in
       let c₂ = count two ds nodes₂ in
       let R : ℕ → Type 0 = λ k. SameReport f k ones twos in
       paired_agree same_bytes (λ a b e. bytes_same (bytes_of a) (bytes_of b) e) one two f g (pairing f g p) (ordered one es nodes₁) (ordered two ds nodes₂)
       ones twos (subst R (sym c₁) r)
       (λ u i. let l : u < length (nodes es) = low₁ u i in omega arith)
-      (λ w i. let l : w < length (nodes ds) = low₂ w i in omega arith)
+      (λ w i. let l : w < length (nodes ds) = low₂ w i in omega arith) once₁ once₂
 
 module _ (line : List ℕ) (tests : List ParsedNode) (one two before₁ before₂ after₁ after₂ : List ℕ) (first second : Side)
     (by₁ : SelectedBy line tests one before₁ first.report after₁) (nodes₁ : spelled_entries first.nodes.items ≡ nodes by₁.events)
@@ -120,7 +120,9 @@ module _ (line : List ℕ) (tests : List ParsedNode) (one two before₁ before�
       by₁.left by₂.left by₁.answer by₂.answer by₁.selection by₂.selection f g p first.report.reported second.report.reported a₁ a₂ in
       let g₁ = agrees (entries first.nodes.items) (entries second.nodes.items) by₁.events by₂.events nodes₁ nodes₂ f g p (take first.report.reported after₁) (take second.report.reported after₂) r.1
       (reported_within bytes_eq bytes_equivalence (plain_nodes tests) (test_names line tests) by₁.events by₁.ending before₁ after₁ by₁.left by₁.answer by₁.selection first.report.reported a₁)
-      (reported_within bytes_eq bytes_equivalence (plain_nodes tests) (test_names line tests) by₂.events by₂.ending before₂ after₂ by₂.left by₂.answer by₂.selection second.report.reported a₂) in
+      (reported_within bytes_eq bytes_equivalence (plain_nodes tests) (test_names line tests) by₂.events by₂.ending before₂ after₂ by₂.left by₂.answer by₂.selection second.report.reported a₂)
+      (reported_once bytes_eq bytes_equivalence (plain_nodes tests) (test_names line tests) by₁.events by₁.ending before₁ after₁ by₁.left by₁.answer by₁.selection first.report.reported a₁)
+      (reported_once bytes_eq bytes_equivalence (plain_nodes tests) (test_names line tests) by₂.events by₂.ending before₂ after₂ by₂.left by₂.answer by₂.selection second.report.reported a₂) in
       let t : b ≡ true = d.1 g₁ in
       let z : b ≡ false = cc in
       let y : true ≡ false = sym t ∙ z in

@@ -1,6 +1,8 @@
 -- Comparing paths.
-use Rattle.std.proofs.Common.{◌≡◌, ℕ, ◌<◌, ◌≤◌, Bool, true, false, List, length, get_or, slice_get, Some, None, Option, Decides, ◌↔◌, refl, sym, ap, ◌∙◌, subst, arith}
-use Rattle.std.proofs.lemmas.Bool.{both_ways}
+use Rattle.std.proofs.Common.{◌≡◌, ℕ, zero, suc, ◌⊎◌, inl, inr, ⊎_elim, ◌<◌, ◌≤◌, Bool, true, false, List, length, get_or, slice_get, Some, None, Option, Decides, ◌↔◌, refl, sym, ap, ◌∙◌, subst, arith}
+use Rattle.std.specs.Str.{bytes_eq}
+use Rattle.std.proofs.lemmas.Bool.{both_ways, cases_lt}
+use Rattle.std.proofs.lemmas.Slice.Eq.{bytes_eq-Decides}
 use Rattle.std.proofs.lemmas.List.{length-map}
 use Rattle.std.proofs.lemmas.Option.{slice_get_past, slice_get_read, slice_get-map}
 use Rattle.std.specs.Option.{option_map}
@@ -9,6 +11,13 @@ use Rattle.labels.specs.declared.name.Name.{Name}
 use Rattle.rules.specs.Embedding.{Nodes}
 use Rattle.compare.specs.declared.node.Node.{Node}
 use Rattle.compare.specs.Paths.{entries, SamePath}
+
+equal_or_not : (a b : List ℕ) → (a ≡ b) ⊎ (a ≡ b → ⊥)
+equal_or_not a b = go (bytes_eq a b) (bytes_eq-Decides a b)
+  where
+    go : (t : Bool) → Decides t (a ≡ b) → (a ≡ b) ⊎ (a ≡ b → ⊥)
+    go true d = inl (d.0 refl)
+    go false d = inr (λ e. both_ways false refl (d.1 e))
 
 module _ (first second : Nodes Name) where
   -- what two entries say of the paths of their nodes
@@ -40,6 +49,65 @@ module _ (first second : Nodes Name) where
   same_name u v None (Some q) a b e f h = absurd (told_at u v (Some (None, a)) (Some (Some q, b)) e f h)
   same_name u v (Some p) None a b e f h = absurd (told_at u v (Some (Some p, a)) (Some (None, b)) e f h)
   same_name u v (Some p) (Some q) a b e f h = (told_at u v (Some (Some p, a)) (Some (Some q, b)) e f h).0
+
+  -- it is decided whether two nodes have the same path, once it is for their parents
+  decide_at : (u v : ℕ) → ((p q : ℕ) → p < u → SamePath first second p q ⊎ (SamePath first second p q → ⊥))
+      → (x y : Option (Option ℕ × Name)) → slice_get first u ≡ x → slice_get second v ≡ y
+      → SamePath first second u v ⊎ (SamePath first second u v → ⊥)
+  decide_at u v known None y e f = inr (told_at u v None y e f)
+  decide_at u v known (Some (None, a)) None e f = inr (told_at u v (Some (None, a)) None e f)
+  decide_at u v known (Some (Some p, a)) None e f = inr (told_at u v (Some (Some p, a)) None e f)
+  decide_at u v known (Some (None, a)) (Some (Some q, b)) e f = inr (told_at u v (Some (None, a)) (Some (Some q, b)) e f)
+  decide_at u v known (Some (Some p, a)) (Some (None, b)) e f = inr (told_at u v (Some (Some p, a)) (Some (None, b)) e f)
+  decide_at u v known (Some (None, a)) (Some (None, b)) e f =
+      ⊎_elim
+      (λ (s : bytes_of a ≡ bytes_of b). inl (SamePath.roots e f s))
+      (λ (n : bytes_of a ≡ bytes_of b → ⊥). inr (λ h. n (told_at u v (Some (None, a)) (Some (None, b)) e f h)))
+      (equal_or_not (bytes_of a) (bytes_of b))
+  decide_at u v known (Some (Some p, a)) (Some (Some q, b)) e f =
+      let apart : (SamePath first second u v → (bytes_of a ≡ bytes_of b) × (p < u) × (q < v) × SamePath first second p q) =
+      told_at u v (Some (Some p, a)) (Some (Some q, b)) e f in
+      ⊎_elim
+      (λ (s : bytes_of a ≡ bytes_of b). ⊎_elim
+      (λ (l : p < u). ⊎_elim
+      (λ (m : q < v). ⊎_elim
+      (λ (k : SamePath first second p q). inl (SamePath.under e f s l m k))
+      (λ (n : SamePath first second p q → ⊥). inr (λ h. n (apart h).3))
+      (known p q l))
+      (λ (m : v ≤ q). inr (λ h. let k = (apart h).2 in let z : ⊥ = omega arith in z))
+      (cases_lt q v))
+      (λ (l : u ≤ p). inr (λ h. let k = (apart h).1 in let z : ⊥ = omega arith in z))
+      (cases_lt p u))
+      (λ (n : bytes_of a ≡ bytes_of b → ⊥). inr (λ h. n (apart h).0))
+      (equal_or_not (bytes_of a) (bytes_of b))
+
+  decided_below : (n u v : ℕ) → u < n → SamePath first second u v ⊎ (SamePath first second u v → ⊥)
+  decided_below zero u v l = absurd (omega arith)
+  decided_below (suc n) u v l = decide_at u v (λ p q k. decided_below n p q (omega arith)) (slice_get first u) (slice_get second v) refl refl
+
+  pub same_or_not : (u v : ℕ) → SamePath first second u v ⊎ (SamePath first second u v → ⊥)
+  same_or_not u v = decided_below (suc u) u v (omega arith)
+
+entry_same : (o : Option (Option ℕ × Name)) (x y : Option ℕ × Name) → o ≡ Some x → o ≡ Some y → x ≡ y
+entry_same o x y e f = let k : Some x ≡ Some y = sym e ∙ f in cc
+
+-- along a third node
+pub same_along : {first second third : Nodes Name} {u v w : ℕ} → SamePath first second u v → SamePath second third v w → SamePath first third u w
+same_along (SamePath.roots {b = b} e f s) (SamePath.roots {a = a} g h t) =
+    let k = entry_same _ (None, b) (None, a) f g in SamePath.roots e h (s ∙ ap (λ (z : Option ℕ × Name). bytes_of z.1) k ∙ t)
+same_along (SamePath.roots {b = b} e f s) (SamePath.under {p = p} {a = a} g h t l m n) =
+    let k = entry_same _ (None, b) (Some p, a) f g in
+    let y : None ≡ Some p = ap (λ (z : Option ℕ × Name). z.0) k in
+    let z : ⊥ = cc in absurd z
+same_along (SamePath.under {q = q} {b = b} e f s l m n) (SamePath.roots {a = a} g h t) =
+    let k = entry_same _ (Some q, b) (None, a) f g in
+    let y : Some q ≡ None = ap (λ (z : Option ℕ × Name). z.0) k in
+    let z : ⊥ = cc in absurd z
+same_along {first} {second} {third} (SamePath.under {q = q} {b = b} e f s l m n) (SamePath.under {p = p} {q = r} {a = a} g h t i j o) =
+    let k = entry_same _ (Some q, b) (Some p, a) f g in
+    let y : Some q ≡ Some p = ap (λ (z : Option ℕ × Name). z.0) k in
+    let x : p ≡ q = cc in
+    SamePath.under e h (s ∙ ap (λ (z : Option ℕ × Name). bytes_of z.1) k ∙ t) l j (same_along n (subst (λ (d : ℕ). SamePath second third d r) x o))
 
 -- the other way round
 pub turned : {first second : Nodes Name} {u v : ℕ} → SamePath first second u v → SamePath second first v u

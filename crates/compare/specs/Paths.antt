@@ -4,7 +4,7 @@ use Rattle.std.specs.List.{slice_get}
 use Rattle.labels.specs.Names.{bytes_of}
 use Rattle.labels.specs.declared.name.Name.{Name}
 use Rattle.rules.specs.Embedding.{Nodes}
-use Rattle.runs.specs.Picks.{In}
+use Rattle.runs.specs.Picks.{In, Picks}
 use Rattle.compare.specs.declared.node.Node.{Node}
 
 -- the nodes by their parents and names
@@ -19,21 +19,27 @@ pub data SamePath (first second : Nodes Name) : ℕ → ℕ → Type 0 where
   under : {u v p q : ℕ} {a b : Name} → slice_get first u ≡ Some (Some p, a) → slice_get second v ≡ Some (Some q, b) → bytes_of a ≡ bytes_of b
       → p < u → q < v → SamePath first second p q → SamePath first second u v
 
--- One of the numbers twos, of nodes of the second list, has the path of node u of the first.
-pub record Partnered (first second : Nodes Name) (twos : List ℕ) (u : ℕ) : Type 0 where
-  pub partner : ℕ
-  pub among : In partner twos
-  pub same_path : SamePath first second u partner
+-- So many of the numbers vs, of nodes of the second list, have the path of node u of the first.
+pub record Counted (first : Nodes Name) (u : ℕ) (second : Nodes Name) (vs : List ℕ) (count : ℕ) : Type 0 where
+  pub having : List ℕ
+  pub picked : Picks (SamePath first second u) vs having
+  pub counted : count ≡ length having
 
--- each of ones does
-pub record AllPartnered (first second : Nodes Name) (twos ones : List ℕ) : Type 0 where
-  pub each : (u : ℕ) → In u ones → Partnered first second twos u
+-- The path of node u of the first list is as often among the numbers ones, of nodes of the first, as among twos, of nodes of the second.
+pub record SameOften (first : Nodes Name) (ones : List ℕ) (second : Nodes Name) (twos : List ℕ) (u : ℕ) : Type 0 where
+  pub count : ℕ
+  pub here : Counted first u first ones count
+  pub there : Counted first u second twos count
 
--- The numbers ones, of nodes of the first list, and twos, of nodes of the second, name the same folders.
+-- so are the paths of all the numbers us, of nodes of the first
+pub record AllSameOften (first : Nodes Name) (ones : List ℕ) (second : Nodes Name) (twos us : List ℕ) : Type 0 where
+  pub each : (u : ℕ) → In u us → SameOften first ones second twos u
+
+-- The numbers ones, of nodes of the first list, and twos, of nodes of the second, name the same folders: each path is as often among ones
+-- as among twos.
 pub record Agree (first : Nodes Name) (ones : List ℕ) (second : Nodes Name) (twos : List ℕ) : Type 0 where
-  pub as_many : length ones ≡ length twos
-  pub each_one : AllPartnered first second twos ones
-  pub each_two : AllPartnered second first ones twos
+  pub each_one : AllSameOften first ones second twos ones
+  pub each_two : AllSameOften second twos first ones twos
 
 -- The path of a node, written out: `/` and the name of each folder from the root down
 pub data PathText (nodes : Nodes Name) : ℕ → List ℕ → Type 0 where

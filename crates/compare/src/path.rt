@@ -1,7 +1,7 @@
 //! The paths of nodes.
 ghost use Rattle.std.specs.Prelude.{◌≡◌, ◌++◌, codes, Decides, IfOk, OnOk};
 ghost use Rattle.labels.specs.Names.{bytes_of};
-ghost use Rattle.compare.specs.Paths.{entries, SamePath, Partnered, AllPartnered, Agree, Pushed};
+ghost use Rattle.compare.specs.Paths.{entries, SamePath, Counted, SameOften, AllSameOften, Agree, Pushed};
 
 use crate::node::Node;
 use labels::name::Name;
@@ -40,40 +40,46 @@ pub fn same_path(first: &[Node], u: usize, second: &[Node], v: usize) -> bool
     }
 }
 
-// Whether one of the nodes `twos` has the path of node u.
-#[tactic(auto, using(crate::proofs::AgreeLaws::partner_laws))]
-fn has_partner(first: &[Node], u: usize, second: &[Node], twos: &[u32]) -> bool
-    ensures { Decides result (Partnered (entries first.now) (entries second.now) twos.now u) }
+// How many of the nodes `vs` have the path of node u.
+#[tactic(auto, using(crate::proofs::AgreeLaws::count_laws))]
+fn count_with_path(first: &[Node], u: usize, second: &[Node], vs: &[u32]) -> usize
+    ensures { Counted (entries first.now) u (entries second.now) vs.now result }
 {
-    for v in twos {
+    let mut count = 0;
+    for v in vs {
         if same_path(first, u, second, *v as usize) {
-            return true;
+            count += 1;
         }
     }
-    false
+    count
 }
 
-// Whether for each of the nodes `ones` one of the nodes `twos` has the same path.
-#[tactic(auto, using(crate::proofs::AgreeLaws::partners_laws))]
-fn all_have_partners(first: &[Node], ones: &[u32], second: &[Node], twos: &[u32]) -> bool
-    ensures { Decides result (AllPartnered (entries first.now) (entries second.now) twos.now ones.now) }
+// Whether the path of node u is as often among the nodes `ones` as among the nodes `twos`.
+fn same_often(first: &[Node], ones: &[u32], second: &[Node], twos: &[u32], u: usize) -> bool
+    ensures { Decides result (SameOften (entries first.now) ones.now (entries second.now) twos.now u) }
+{
+    count_with_path(first, u, first, ones) == count_with_path(first, u, second, twos)
+}
+
+// Whether the path of each of the nodes `ones` is as often among them as among the nodes `twos`.
+#[tactic(auto, using(crate::proofs::AgreeLaws::all_often_laws))]
+fn all_same_often(first: &[Node], ones: &[u32], second: &[Node], twos: &[u32]) -> bool
+    ensures { Decides result (AllSameOften (entries first.now) ones.now (entries second.now) twos.now ones.now) }
 {
     for u in ones {
-        if !has_partner(first, *u as usize, second, twos) {
+        if !same_often(first, ones, second, twos, *u as usize) {
             return false;
         }
     }
     true
 }
 
-/// Whether two lists of nodes name the same folders: they are as long, and each node of one has the path of a node of the other.
+/// Whether two lists of nodes name the same folders: each path is as often in one as in the other.
 #[tactic(auto, using(crate::proofs::AgreeLaws::agree_laws))]
 pub fn agree(first: &[Node], ones: &[u32], second: &[Node], twos: &[u32]) -> bool
     ensures { Decides result (Agree (entries first.now) ones.now (entries second.now) twos.now) }
 {
-    ones.len() == twos.len()
-        && all_have_partners(first, ones, second, twos)
-        && all_have_partners(second, twos, first, ones)
+    all_same_often(first, ones, second, twos) && all_same_often(second, twos, first, ones)
 }
 
 // Appends `/` and the name.

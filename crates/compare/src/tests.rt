@@ -2,7 +2,7 @@
 use crate::comparison::compare;
 
 // For each input: the agreement, and how many folders are reported from each listing.
-const COMPARED: [(&[u8], Option<bool>, usize, usize); 7] = [
+const COMPARED: [(&[u8], Option<bool>, usize, usize); 9] = [
     (b"//a\n<r><a/><b/></r>\0<r><b/><a/></r>", Some(true), 1, 1),
     (
         b"//a[b]\n<r><a><b/></a><a/></r>\0<r><a/><a><b/></a></r>",
@@ -12,6 +12,18 @@ const COMPARED: [(&[u8], Option<bool>, usize, usize); 7] = [
     ),
     (b"//a\n<r><a/></r>\0<r><b/><a/><a/></r>", Some(false), 1, 2),
     (b"//a\n<r><a/></r>\0<s><a/></s>", Some(false), 1, 1),
+    (
+        b"//*\n<r><a/><a/><b/></r>\0<r><a/><b/><b/></r>",
+        Some(false),
+        4,
+        4,
+    ),
+    (
+        b"//*\n<r><a/><a/><b/></r>\0<r><a/><b/><a/></r>",
+        Some(true),
+        4,
+        4,
+    ),
     (b"//a\n<r/>\0<r/>", Some(true), 0, 0),
     (b"//a\n<r><a/></r>", None, 1, 0),
     (b"//a\n<r><a/></b>\0<r><a/></r>", None, 1, 1),

@@ -107,7 +107,7 @@ taken_out y (x ∷ xs) (inr m) =
     (x ∷ r.0, ap suc r.1, λ z h n. ⊎_elim (λ (q : z ≡ x). inl q) (λ (t : In z xs). inr (r.2 z t n)) h)
 
 -- numbers that go one to one into a list are no more than it has
-fewer : (f : ℕ → ℕ) (xs ys : List ℕ) → Once xs → ((a b : ℕ) → In a xs → In b xs → f a ≡ f b → a ≡ b)
+pub fewer : (f : ℕ → ℕ) (xs ys : List ℕ) → Once xs → ((a b : ℕ) → In a xs → In b xs → f a ≡ f b → a ≡ b)
     → ((a : ℕ) → In a xs → In (f a) ys) → length xs ≤ length ys
 fewer f [] ys o inj into = omega arith
 fewer f (x ∷ xs) ys o inj into =
@@ -195,3 +195,10 @@ module _ {L : Type 0} (same : L → L → Bool) (equality : IsEquivalence same) 
   reported_within es end was is left a s n e v i =
       let c = completed (length was) es end s.selects n e in
       ((c.exact.exactly v).0 (subst (λ vs. In v vs) (front was s.reported is n s.filled c.counted) i)).0
+
+  -- and each stands once
+  pub reported_once : {F : Type 0} (es : List (Event L)) (end : Option F) (was is : List ℕ) (left : List (Event L)) (a : Answer F)
+      → Selection same rule labels es end was a is left → (n : ℕ) → a ≡ done n → Once (take n is)
+  reported_once es end was is left a s n e =
+      let c = completed (length was) es end s.selects n e in
+      subst (λ vs. Once vs) (sym (front was s.reported is n s.filled c.counted)) c.exact.single
