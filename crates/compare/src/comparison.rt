@@ -67,6 +67,11 @@ fn answer(
 
 /// Reads an input: a rule text in its first line, then a listing up to the first byte 0, and behind that byte another listing. Selects from
 /// both: the numbers to report stand at the front of `ones` and of `twos`.
+///
+/// # Errors
+///
+/// Where memory runs out, the outer error; where the input is too long or its rule text is refused, the inner one, and both lists stay as
+/// they were.
 pub fn compare(
     input: &[u8],
     ones: &mut [u32],

@@ -11,13 +11,11 @@ mod tests;
 use comparison::{Comparison, compare};
 use path::push_path;
 use reports::refusal::{INPUT_LIMIT, Refusal};
+use reports::report::NUMBERS_LIMIT;
 use side::Side;
 use std::alloc::{AllocError, Global};
 use std::io;
 use std::io::{Read, Write};
-
-// The numbers that each list for them holds: no input has more to report.
-const LIST: usize = 16_384;
 
 // The paths of the folders reported from one listing, each on a line, and how the selection ended.
 fn push_side(
@@ -27,6 +25,7 @@ fn push_side(
     heap: Global,
 ) -> Result<(), AllocError> {
     for number in numbers {
+        // Each of them is the number of a node, so it has a path.
         push_path(text, &side.nodes, *number as usize)?;
         text.push(b'\n')?;
     }
@@ -73,8 +72,8 @@ fn main(rt: HostRuntime) -> io::Result<()> {
     rt.stdin()
         .take(INPUT_LIMIT as u64 + 1)
         .read_to_end(&mut input)?;
-    let mut ones = vec![in rt.alloc(); 0u32; LIST]?;
-    let mut twos = vec![in rt.alloc(); 0u32; LIST]?;
+    let mut ones = vec![in rt.alloc(); 0u32; NUMBERS_LIMIT]?;
+    let mut twos = vec![in rt.alloc(); 0u32; NUMBERS_LIMIT]?;
     let answer = compare(&input, &mut ones, &mut twos, rt.alloc())?;
     let text = text(rt.alloc(), answer, &ones, &twos)?;
     rt.stdout().write_all(&text)

@@ -35,7 +35,8 @@ pub record Asks (bs : List ℕ) (line : List ℕ) (ns : List ParsedNode) (rest :
   pub split : Splits 10 bs line rest
   pub gives : TextGives line ns
 
--- The question of an input: its rule, the names of the named rule nodes at their numbers, and what is behind the first line
+-- The question of an input: its rule, the names of the named rule nodes at their numbers, and what is behind the first line. The other
+-- entries of the list of names may be any, as no test is compared with them.
 pub record QuestionOf (bs : List ℕ) (q : Question) : Type 0 where
   pub line : List ℕ
   pub nodes : List ParsedNode
