@@ -36,7 +36,7 @@ pub record AllSameOften (first : Nodes Name) (ones : List ℕ) (second : Nodes N
   pub each : (u : ℕ) → In u us → SameOften first ones second twos u
 
 -- The numbers ones, of nodes of the first list, and twos, of nodes of the second, name the same folders: each path is as often among ones
--- as among twos.
+-- as among twos. A number that is no node's has no path.
 pub record Agree (first : Nodes Name) (ones : List ℕ) (second : Nodes Name) (twos : List ℕ) : Type 0 where
   pub each_one : AllSameOften first ones second twos ones
   pub each_two : AllSameOften second twos first ones twos
