@@ -1,3 +1,4 @@
+pub mod Known
 pub mod ReportLaws
 pub mod ElementLaws
 pub mod Fitting

@@ -1,4 +1,5 @@
 pub mod Parts
 pub mod Refusals
 pub mod Reports
+pub mod Printed
 pub mod Elements

@@ -1,14 +1,16 @@
 //! What is reported of an input.
-ghost use Rattle.std.specs.Prelude.{◌≡◌, ℕ, ◌≤◌, List, length, take, Ok};
+ghost use Rattle.std.specs.Prelude.{◌≡◌, ℕ, ◌≤◌, List, length, take, Ok, Some};
 ghost use Rattle.selection.specs.Answers.{answered};
 ghost use Rattle.reports.specs.Refusals.{numbers_limit};
 ghost use Rattle.reports.specs.Elements.{WithRoom, SelectsElements};
+ghost use Rattle.reports.specs.Printed.{report_text};
 ghost use Rattle.reports.specs.Reports.{QuestionOf, Concludes, Reports, OnlyReports};
 
 use crate::question::Question;
 use crate::refusal::Refusal;
 use selection::refusal::SelectFault;
 use selection::select::select;
+use std::fmt;
 use xml::fault::XmlFault;
 use xml::reader::Xml;
 
@@ -38,6 +40,19 @@ impl Report {
                 reported: fault.reported,
                 verdict: Err(Refusal::of_selection(fault.cause, length)),
             },
+        }
+    }
+}
+
+/// The count of the numbers, or why the input is refused, as `selected 3` or `refused 33 at 8`.
+impl fmt::Display for Report {
+    ghost output = { λ report. Some (report_text report) };
+
+    fn fmt<W: fmt::Write>(&self, f: &mut fmt::Formatter<W>) -> fmt::Result {
+        let reported = self.reported;
+        match self.verdict {
+            Ok(()) => write!(f, "selected {reported}"),
+            Err(refusal) => write!(f, "refused {refusal}"),
         }
     }
 }
