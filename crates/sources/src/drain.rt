@@ -3,7 +3,7 @@ ghost use Rattle.std.specs.Prelude.{◌≡◌, ◌<◌, ◌≤◌, min, length, 
 
 use crate::source::Source;
 
-/// How many events come, and the fault behind them, if one comes. No more events are heard than asked for.
+/// How many events come, and the fault behind them where fewer come than `most`. No more events are heard than asked for.
 #[tactic(auto, using(crate::proofs::Heard::heard_out))]
 pub fn drained<S: Source>(source: &mut S, most: usize) -> (usize, Option<S::Fault>)
     ensures count { result.0 ≡ min most (length (S.events source.old)) }
