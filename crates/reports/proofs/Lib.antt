@@ -3,3 +3,4 @@ pub mod ReportLaws
 pub mod ElementLaws
 pub mod Fitting
 pub mod OneReport
+pub mod Cut
