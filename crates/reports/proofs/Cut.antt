@@ -1,12 +1,16 @@
 -- An input that was read no further than one byte behind the limit is reported as the whole.
-use Rattle.std.proofs.Common.{◌≡◌, ℕ, ◌+◌, ◌<◌, ◌≤◌, ◌⊎◌, List, length, take, subst, inl, inr, arith}
+use Rattle.std.proofs.Common.{Ok, ◌≡◌, ℕ, ◌+◌, ◌<◌, ◌≤◌, ◌⊎◌, List, length, take, subst, inl, inr, arith}
 use Rattle.std.proofs.lemmas.Bool.{cases_lt}
 use Rattle.std.proofs.lemmas.List.{take_all, length-take-le}
 use Rattle.rules.specs.declared.syntax.ParsedNode.{ParsedNode}
 use Rattle.reports.specs.declared.refusal.Refusal.{Refusal}
 use Rattle.reports.specs.declared.refusal.Refusal.TheVariants.{Rule}
-use Rattle.reports.specs.Refusals.{input_limit}
-use Rattle.reports.specs.Reports.{Bad, Asks}
+use Rattle.reports.specs.declared.report.Report.{Report}
+use Rattle.reports.specs.Refusals.{input_limit, numbers_limit}
+use Rattle.reports.specs.Elements.{WithRoom, SelectsElements}
+use Rattle.reports.specs.Reports.{Bad, Asks, Reports, OnlyReports}
+use Rattle.reports.proofs.ElementLaws.{reports_elements}
+use Rattle.reports.proofs.OneReport.{only_report, with_room}
 
 -- a list of n elements at most is read to its end
 pub cut_all : (n : ℕ) (bs : List ℕ) → length bs ≤ n → take (n + 1) bs ≡ bs
@@ -41,3 +45,22 @@ cut_bad bs (Bad.bad_rule f h s t) =
 -- and asks what the whole asks
 pub cut_asks : (bs line rest : List ℕ) (ns : List ParsedNode) → Asks (take (input_limit + 1) bs) line ns rest → Asks bs line ns rest
 cut_asks bs line rest ns a = subst (λ xs. Asks xs line ns rest) (cut_short input_limit bs a.fits).1 a
+
+reports_whole : (bs before after : List ℕ) (report : Report) → Reports (take (input_limit + 1) bs) before report after → Reports bs before report after
+reports_whole bs before after report (Reports.bad r b) = Reports.bad r (cut_bad bs b)
+reports_whole bs before after report (Reports.selected {line = line} {listing = listing} {ns = ns} a s) =
+    Reports.selected (cut_asks bs line listing ns a) s
+
+-- So the one report on that part is the one on the whole.
+pub cut_reports : (bs before after : List ℕ) (report : Report) → OnlyReports (take (input_limit + 1) bs) before report after
+    → OnlyReports bs before report after
+cut_reports bs before after report (OnlyReports.only h _) = only_report bs before after report (reports_whole bs before after report h)
+
+pub cut_room : (bs before after : List ℕ) (report : Report) → OnlyReports (take (input_limit + 1) bs) before report after
+    → numbers_limit ≤ length before → WithRoom bs report
+cut_room bs before after report (OnlyReports.only h _) wide = with_room bs before after report (reports_whole bs before after report h) wide
+
+pub cut_elements : (bs before after : List ℕ) (report : Report) → OnlyReports (take (input_limit + 1) bs) before report after
+    → report.verdict ≡ Ok tt → SelectsElements bs (take report.reported after)
+cut_elements bs before after report (OnlyReports.only h _) fine =
+    reports_elements bs before after report (reports_whole bs before after report h) fine
