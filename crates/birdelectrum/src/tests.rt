@@ -1,4 +1,5 @@
 //! Whole inputs.
+use crate::printing::run;
 use reports::report::{Report, report_on};
 use std::process::Abort;
 
@@ -34,4 +35,20 @@ fn no_listing(rt: HostRuntime) {
 #[test]
 fn a_fault_after_numbers(rt: HostRuntime) {
     refused(&rt, b"//b\n<a><b/><b/></c>", 2, 33, 13);
+}
+
+// What is printed of inputs.
+const PRINTED: [(&[u8], &[u8]); 3] = [
+    (b"//b\n<a><b/><b/></a>", b"1\n2\nselected 2\n"),
+    (b"//b\n<a><b/><b/></c>", b"1\n2\nrefused 33 at 13\n"),
+    (b"//a[\n<a/>", b"refused 11 at 4\n"),
+];
+
+#[test]
+fn printed(rt: HostRuntime) {
+    for (input, text) in PRINTED {
+        let mut written = Vec::new(rt.alloc());
+        run(input, &mut written, rt.alloc()).expect(&rt, "memory");
+        assert_eq!(rt; written.as_slice(), text, "of {input:?}");
+    }
 }
