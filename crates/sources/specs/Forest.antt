@@ -1,4 +1,4 @@
--- Labelled trees, the events that tell them, and their nodes.
+-- Labelled trees, the events that tell them, their nodes, and the order in which these end.
 use Rattle.std.specs.Prelude.{ℕ, suc, ◌+◌, List, [], ◌∷◌, ◌++◌, Some, Option}
 use Rattle.sources.specs.declared.event.Event.{Event}
 use Rattle.sources.specs.declared.event.Event.TheVariants.{Open, Close}
@@ -23,3 +23,9 @@ size (tree l inside behind) = suc (size inside + size behind)
 abbrev pub nodes_of : {L : Type 0} → Option ℕ → ℕ → Forest L → List (Option ℕ × L)
 nodes_of above n none = []
 nodes_of above n (tree l inside behind) = (above, l) ∷ nodes_of (Some n) (suc n) inside ++ nodes_of above (suc n + size inside) behind
+
+-- The nodes of trees by their numbers, in the order in which they end: the nodes in a node, which has the number n, then the node, and then
+-- those behind it
+abbrev pub post_order : {L : Type 0} → ℕ → Forest L → List ℕ
+post_order n none = []
+post_order n (tree l inside behind) = post_order (suc n) inside ++ (n ∷ post_order (suc n + size inside) behind)

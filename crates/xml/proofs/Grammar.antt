@@ -6,10 +6,10 @@ use Rattle.std.proofs.lemmas.Bool.{both_ways}
 use Rattle.sources.specs.declared.event.Event.{Event}
 use Rattle.sources.specs.declared.event.Event.TheVariants.{Open, Close}
 use Rattle.sources.specs.Events.{MeansOnly}
-use Rattle.sources.specs.Forest.{Forest, events_of, nodes_of}
+use Rattle.sources.specs.Forest.{Forest, events_of, nodes_of, post_order}
 use Rattle.sources.specs.Forest.Forest.{none, tree}
-use Rattle.sources.specs.Nodes.{nodes}
-use Rattle.sources.proofs.ForestNodes.{forest_nodes}
+use Rattle.sources.specs.Nodes.{nodes, closing_order}
+use Rattle.sources.proofs.ForestNodes.{forest_nodes, forest_order}
 use Rattle.labels.specs.Spelling.{part}
 use Rattle.xml.specs.Markup.{markup, IsStart, IsEnd}
 use Rattle.xml.specs.Shapes.{reaches, markup_none}
@@ -215,8 +215,11 @@ module _ (xs : List ℕ) (es : List (Event (List ℕ))) (end : Option XmlFault) 
   pub done_document : DoneAsDocument xs es end
   done_document = record { only_documents = only; all_documents = all }
     where
-      only : end ≡ None → (trees : Forest (List ℕ)) × Document xs trees × (es ≡ events_of trees) × (nodes es ≡ nodes_of None 0 trees)
-      only e = let (trees, g, eq) = told xs 0 [] false es end d e refl refl (omega arith) in (trees, g, eq, ap nodes eq ∙ forest_nodes trees)
+      only : end ≡ None → (trees : Forest (List ℕ)) × Document xs trees × (es ≡ events_of trees)
+          × (nodes es ≡ nodes_of None 0 trees) × (closing_order es ≡ post_order 0 trees)
+      only e =
+          let (trees, g, eq) = told xs 0 [] false es end d e refl refl (omega arith) in
+          (trees, g, eq, ap nodes eq ∙ forest_nodes trees, ap closing_order eq ∙ forest_order trees)
 
       all : (trees : Forest (List ℕ)) → Document xs trees → (end ≡ None) × (es ≡ events_of trees)
       all trees g = let o = once xs 0 [] false es end d (events_of trees) None (reads_from xs 0 trees g) in (o.1, o.0)

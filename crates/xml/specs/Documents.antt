@@ -6,9 +6,9 @@
 -- No document type declaration and no CDATA section is allowed. An XML declaration counts as an instruction, and a reference as text.
 use Rattle.std.specs.Prelude.{◌≡◌, ℕ, suc, ◌+◌, ◌<◌, true, false, List, length, drop, None, Option}
 use Rattle.sources.specs.declared.event.Event.{Event}
-use Rattle.sources.specs.Forest.{Forest, events_of, nodes_of}
+use Rattle.sources.specs.Forest.{Forest, events_of, nodes_of, post_order}
 use Rattle.sources.specs.Forest.Forest.{none, tree}
-use Rattle.sources.specs.Nodes.{nodes}
+use Rattle.sources.specs.Nodes.{nodes, closing_order}
 use Rattle.labels.specs.Spelling.{byte, part, is_white}
 use Rattle.xml.specs.Markup.{markup, IsComment, IsInstruction, IsStart, IsEnd}
 use Rattle.xml.specs.Reading.{depth_limit}
@@ -60,8 +60,9 @@ pub record DocumentFrom (xs : List ℕ) (p : ℕ) (trees : Forest (List ℕ)) : 
 abbrev pub Document : List ℕ → Forest (List ℕ) → Type 0
 Document xs trees = DocumentFrom xs 0 trees
 
--- A listing is done exactly when it is a document. Then its events are those of the document's tree, and its nodes are the document's
--- elements, in order, each under the element around it.
+-- A listing is done exactly when it is a document. Then its events are those of the document's tree, its nodes are the document's
+-- elements, in order, each under the element around it, and they close in the order in which the elements end.
 pub record DoneAsDocument (xs : List ℕ) (es : List (Event (List ℕ))) (end : Option XmlFault) : Type 0 where
-  pub only_documents : end ≡ None → (trees : Forest (List ℕ)) × Document xs trees × (es ≡ events_of trees) × (nodes es ≡ nodes_of None 0 trees)
+  pub only_documents : end ≡ None → (trees : Forest (List ℕ)) × Document xs trees × (es ≡ events_of trees)
+      × (nodes es ≡ nodes_of None 0 trees) × (closing_order es ≡ post_order 0 trees)
   pub all_documents : (trees : Forest (List ℕ)) → Document xs trees → (end ≡ None) × (es ≡ events_of trees)
