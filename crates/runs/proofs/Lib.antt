@@ -18,4 +18,5 @@ pub mod LabelledCalls
 pub mod MadeCallLaws
 pub mod ReplayLaws
 pub mod OccursTest
+pub mod CallLaws
 pub mod Examples

@@ -223,7 +223,7 @@ module _ {A : Type 0} where
     abbrev meets_at : Model A → ℕ → ℕ → Bool
     meets_at m x v = holds (slice_get m.nodes v) (λ e. meets_test e.1 x)
 
-    abbrev occurs_at : Model A → ℕ → Bool
+    abbrev pub occurs_at : Model A → ℕ → Bool
     occurs_at m v = occurs_test rule (length m.nodes) (child_at m) (meets_at m) v
 
     -- the model after a call that is accepted
@@ -263,12 +263,12 @@ module _ {A : Type 0} where
           (λ h. ((h.0, h.1), h.2, h.3))
           (holds_decides (slice_get m.nodes v) _ _ (λ e. decides e.1 x))
 
-      occurs_at_decides : (m : Model A) → parents_test m.nodes ≡ true → (v : ℕ) → Decides (occurs_at m v) (OccursAt rule meets m v)
-      occurs_at_decides m e = occurs_decides rule (length m.nodes) (child_at m) (meets_at m) (KeptChild m) (MeetsAt meets m) ordered some
-          (child_decides m) (λ u v k. parents_first m.nodes e v u k.0.0 k.0.1)
+      pub occurs_at_decides : (m : Model A) → ParentsFirst m.nodes → (v : ℕ) → Decides (occurs_at m v) (OccursAt rule meets m v)
+      occurs_at_decides m first = occurs_decides rule (length m.nodes) (child_at m) (meets_at m) (KeptChild m) (MeetsAt meets m) ordered some
+          (child_decides m) (λ u v k. first v u k.0.0 k.0.1)
           (meets_decides m) (λ x v h. slice_get_within m.nodes v _ h.2)
 
-      closes : (m : Model A) (p : List ℕ) → m.path ≡ p → parents_test m.nodes ≡ true → 0 < length p → length m.waiting < waiting_limit
+      closes : (m : Model A) (p : List ℕ) → m.path ≡ p → ParentsFirst m.nodes → 0 < length p → length m.waiting < waiting_limit
           → (t : Told) × Does rule meets m Close t (close_path m p) × Accepted t
       closes m [] q e pos l = absurd (omega arith)
       closes m (v ∷ vs) q e pos l = go (occurs_at m v) refl
@@ -286,7 +286,7 @@ module _ {A : Type 0} where
       does m Close e =
           let r = and_parts _ _ e in
           let s = and_parts _ _ r.1 in
-          closes m m.path refl r.0 (ltb-true _ _ s.0) (ltb-true _ _ s.1)
+          closes m m.path refl (parents_first m.nodes r.0) (ltb-true _ _ s.0) (ltb-true _ _ s.1)
       does m Drop e = falls m m.path refl (ltb-true _ _ e)
       does m (Take n) e = (_, takes n, tt)
 
