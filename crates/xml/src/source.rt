@@ -14,10 +14,12 @@ use sources::event::Event;
 use sources::source::Source;
 
 impl<'a> Xml<'a> {
-    /// A reader of the input, before any event. The input has one meaning, in which each label has the bytes of its element's name,
-    /// and is done exactly when it is a document.
+    /// A reader of the input, at its start and before any event. The input has one meaning, in which each label has the bytes of its
+    /// element's name, and is done exactly when it is a document.
     #[tactic(auto, using(crate::proofs::Grammar::only_meaning, crate::proofs::Grammar::done_document, crate::proofs::Labels::labels_back))]
     pub fn new(input: &'a [u8]) -> Xml<'a>
+        ensures whole { result.tags.input.now ≡ input.now }
+        ensures front { result.tags.place ≡ 0 }
         ensures fresh { begun result ≡ false }
         ensures meaning { MeansOnly (Reads input.now 0 [] false) (xml_spelled result) (xml_ending result) }
         ensures labels { map spelled (xml_events result) ≡ xml_spelled result }

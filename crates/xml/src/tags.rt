@@ -36,6 +36,8 @@ fn label(bytes: &[u8]) -> Name
 impl<'a> Tags<'a> {
     // What reads from the start of the input.
     pub(crate) fn new(input: &'a [u8]) -> Tags<'a>
+        ensures whole { result.input.now ≡ input.now }
+        ensures front { result.place ≡ 0 }
         ensures fresh { result.rooted ≡ false }
         ensures reads { Reads input.now 0 [] false (tags_meaning result).events (tags_meaning result).ending }
     {
