@@ -92,6 +92,9 @@ opens_from xs p names rooted k n q e b (start_found r i) = (b, r, i)
 pub start_within : (xs : List ℕ) (p n q : ℕ) (e : Bool) → IsStart xs p n q e → q ≤ length xs
 start_within xs p n q e i = let g = i.ends in omega (arith, standing xs i.close (code ">") i.tag.closes (omega arith))
 
+pub end_within : (xs : List ℕ) (p n q : ℕ) → IsEnd xs p n q → q ≤ length xs
+end_within xs p n q i = let g = i.ends in omega (arith, standing xs i.close (code ">") i.tag.closes (omega arith))
+
 pub closes_from : (xs : List ℕ) (p : ℕ) (w : List ℕ) (names : List (List ℕ)) (rooted : Bool) (k : Markup) (q : ℕ) →
     Begins xs p k → Finds xs p (w ∷ names) rooted k (closes q) → Begins xs p EndTag × ((n : ℕ) × (part xs (p + 2) n ≡ w) × IsEnd xs p n q)
 closes_from xs p w names rooted k q b (end_found {n = n} i d) = (b, (n, i, d))
@@ -162,9 +165,7 @@ tails xs p names rooted es end (opened_empty {n = n} {q = q} {es = ds} f d) e r 
 tails xs p names rooted es end (closed {q = q} {w = w} {names = ns} {es = ds} f d) e r h =
     let s = closes_from xs p w ns rooted _ q refl f in
     let i = s.1.2 in
-    let g = i.ends in
-    let l = standing xs i.close (code ">") i.tag.closes (omega arith) in
-    let t = tails xs q ns rooted ds end d e r (omega arith) in
+    let t = tails xs q ns rooted ds end d e r (end_within xs p s.1.0 q i) in
     (p, s.1.0, q, none, ds, nothing, s.0, i, s.1.1, t, refl)
 
 -- a document with these events
@@ -175,7 +176,7 @@ document_skip : (xs : List ℕ) (p q : ℕ) (es : List (Event (List ℕ))) → S
 document_skip xs p q es s (trees, d, eq) =
     (trees, record { start = d.start; stop = d.stop; before = skipped_misc xs p q d.start s d.before; root = d.root; behind = d.behind }, eq)
 
-told : (xs : List ℕ) (p : ℕ) (names : List (List ℕ)) (rooted : Bool) (es : List (Event (List ℕ))) (end : Option XmlFault) →
+pub told : (xs : List ℕ) (p : ℕ) (names : List (List ℕ)) (rooted : Bool) (es : List (Event (List ℕ))) (end : Option XmlFault) →
     Reads xs p names rooted es end → end ≡ None → names ≡ [] → rooted ≡ false → p ≤ length xs → DocumentWith xs p es
 told xs p names rooted es end (done f) e nil r h = absurd (both_ways _ r (finish_from xs p names rooted _ refl f).2)
 told xs p names rooted es end (refused g f) e nil r h = let z : ◌≡◌ {A = ℕ} 0 1 = cc in absurd (omega arith)
@@ -199,7 +200,7 @@ told xs p names rooted es end (opened_empty {n = n} {q = q} {es = ds} f d) e nil
     (tree w none none, record { start = p; stop = q; before = no_misc; root = empty_tag (omega arith) s.0 s.2; behind = t.1 }, ap (λ x. Open w ∷ Close ∷ x) t.0)
 told xs p names rooted es end (closed f d) e nil r h = let z : ◌≡◌ {A = ℕ} 0 1 = cc in absurd (omega arith)
 
-reads_from : (xs : List ℕ) (p : ℕ) (trees : Forest (List ℕ)) → DocumentFrom xs p trees → Reads xs p [] false (events_of trees) None
+pub reads_from : (xs : List ℕ) (p : ℕ) (trees : Forest (List ℕ)) → DocumentFrom xs p trees → Reads xs p [] false (events_of trees) None
 reads_from xs p trees d =
     let shut : Nothing ≡ markup (drop (length xs) xs) = sym (ap markup (drop_all (length xs) xs (omega arith))) in
     let last : Reads xs (length xs) [] true [] None = done (found xs (length xs) [] true Nothing _ shut (finish refl refl)) in

@@ -4,3 +4,6 @@ pub mod Ends
 pub mod Steps
 pub mod Grammar
 pub mod Labels
+pub mod Alike
+pub mod Completes
+pub mod Breaks

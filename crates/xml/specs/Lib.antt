@@ -7,6 +7,7 @@ pub mod ScanLaws
 pub mod FaultLaws
 pub mod Total
 pub mod Documents
+pub mod Fronts
 pub mod Means
 pub mod Nesting
 pub mod Inner

@@ -3,6 +3,7 @@ ghost use Rattle.std.specs.Prelude.{◌≡◌, false, [], map};
 ghost use Rattle.sources.specs.Events.{MeansOnly, answer, rest};
 ghost use Rattle.xml.specs.Reading.{Reads};
 ghost use Rattle.xml.specs.Documents.{DoneAsDocument};
+ghost use Rattle.xml.specs.Fronts.{RefusedAsFront};
 ghost use Rattle.xml.specs.Means.{xml_events, xml_ending, xml_spelled, spelled, begun, begun_by};
 ghost use Rattle.xml.specs.Nesting.{xml_nested};
 
@@ -15,8 +16,8 @@ use sources::source::Source;
 
 impl<'a> Xml<'a> {
     /// A reader of the input, at its start and before any event. The input has one meaning, in which each label has the bytes of its
-    /// element's name, and is done exactly when it is a document.
-    #[tactic(auto, using(crate::proofs::Grammar::only_meaning, crate::proofs::Grammar::done_document, crate::proofs::Labels::labels_back))]
+    /// element's name, and is done exactly when it is a document. Where it is refused, the events are those of a front of a document.
+    #[tactic(auto, using(crate::proofs::Grammar::only_meaning, crate::proofs::Grammar::done_document, crate::proofs::Breaks::refused_front, crate::proofs::Labels::labels_back))]
     pub fn new(input: &'a [u8]) -> Xml<'a>
         ensures whole { result.tags.input.now ≡ input.now }
         ensures front { result.tags.place ≡ 0 }
@@ -24,6 +25,7 @@ impl<'a> Xml<'a> {
         ensures meaning { MeansOnly (Reads input.now 0 [] false) (xml_spelled result) (xml_ending result) }
         ensures labels { map spelled (xml_events result) ≡ xml_spelled result }
         ensures document { DoneAsDocument input.now (xml_spelled result) (xml_ending result) }
+        ensures refused { RefusedAsFront input.now (xml_spelled result) (xml_ending result) }
     {
         Xml {
             tags: Tags::new(input),
