@@ -3,11 +3,11 @@ use Rattle.std.proofs.Common.{◌≡◌, ℕ, ◌+◌, ◌-◌, ◌<◌, ◌≤�
 use Rattle.std.specs.Option.{unwrap_or}
 use Rattle.std.specs.List.{AllWithin, HoldsAt}
 use Rattle.std.proofs.lemmas.List.{length-drop, get_or-drop}
-use Rattle.labels.specs.Spelling.{byte, LongestBy}
+use Rattle.labels.specs.Spelling.{byte_at, LongestBy}
 
 module _ (R : ℕ → Bool → Type 0) (bs : List ℕ) (p : ℕ) (few : p ≤ length bs) where
   -- what is answered of a byte of the rest is answered at its place
-  back : (b : Bool) (i : ℕ) → p ≤ i → R (get_or (drop p bs) (i - p) 0) b → R (byte bs i) b
+  back : (b : Bool) (i : ℕ) → p ≤ i → R (get_or (drop p bs) (i - p) 0) b → R (byte_at bs i) b
   back b i l h = let e : p + (i - p) ≡ i = omega arith in subst (λ (x : ℕ). R x b) (get_or-drop p bs (i - p) 0 ∙ ap (λ (k : ℕ). get_or bs k 0) e) h
 
   -- the first byte of the rest that does not pass ends the run

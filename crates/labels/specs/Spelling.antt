@@ -4,8 +4,8 @@ use Prim.Native.Char.{code}
 use Rattle.std.specs.Char.{is_ascii_digit, is_ascii_alphabetic}
 
 -- the byte at a place; past the end it is 0, which is no white space and stands in no name
-abbrev pub byte : List ℕ → ℕ → ℕ
-byte bs i = slice_index bs i
+abbrev pub byte_at : List ℕ → ℕ → ℕ
+byte_at bs i = slice_index bs i
 
 -- the bytes from one place up to another
 abbrev pub part : List ℕ → ℕ → ℕ → List ℕ
@@ -36,12 +36,12 @@ Longest ok end p q = LongestRun (λ i. ok i ≡ true) (λ i. ok i ≡ false) end
 
 -- of bytes that pass a test in the code, of which only its possible answers are known
 abbrev pub LongestBy : (ℕ → Bool → Type 0) → List ℕ → ℕ → ℕ → Type 0
-LongestBy answers bs p q = LongestRun (λ i. answers (byte bs i) true) (λ i. answers (byte bs i) false) (length bs) p q
+LongestBy answers bs p q = LongestRun (λ i. answers (byte_at bs i) true) (λ i. answers (byte_at bs i) false) (length bs) p q
 
 -- A name begins at p, and ends at q since it is as long as it can be.
 pub record Named (bs : List ℕ) (p q : ℕ) : Type 0 where
-  pub begins : starts_name (byte bs p) ≡ true
-  pub ends : Longest (λ i. continues_name (byte bs i)) (length bs) p q
+  pub begins : starts_name (byte_at bs p) ≡ true
+  pub ends : Longest (λ i. continues_name (byte_at bs i)) (length bs) p q
 
 -- A name has at most so many bytes.
 abbrev pub name_limit : ℕ

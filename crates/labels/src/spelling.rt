@@ -1,7 +1,7 @@
 //! How names are spelled in rule texts and in listings. Bytes and a place go in and a place comes out: refusals tell places, so a cursor
 //! over both would be taken apart and made again.
 ghost use Rattle.std.specs.Prelude.{◌≡◌, ◌<◌, ◌≤◌, length, drop, MatchResult};
-ghost use Rattle.labels.specs.Spelling.{is_white, starts_name, continues_name, byte, Longest, LongestBy, Spelled};
+ghost use Rattle.labels.specs.Spelling.{is_white, starts_name, continues_name, byte_at, Longest, LongestBy, Spelled};
 ghost use Rattle.labels.specs.NoName.{Unended};
 
 /// The bytes that a name has at most.
@@ -47,7 +47,7 @@ pub fn run_end<F: Fn(u8) -> bool>(bytes: &[u8], from: usize, passes: F) -> usize
 
 /// The first place from `from` on where no white space stands, or the length; past the end it is `from`.
 pub fn white_end(bytes: &[u8], from: usize) -> usize
-    ensures within { from ≤ length bytes.now → Longest (λ i. is_white (byte bytes.now i)) (length bytes.now) from result }
+    ensures within { from ≤ length bytes.now → Longest (λ i. is_white (byte_at bytes.now i)) (length bytes.now) from result }
     ensures past { length bytes.now < from → result ≡ from }
 {
     run_end(bytes, from, is_white)

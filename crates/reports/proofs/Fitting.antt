@@ -3,7 +3,7 @@ use Rattle.std.proofs.Common.{Option, Ok, ◌≡◌, ℕ, suc, ◌+◌, ◌-◌,
 use Prim.Native.Char.{code}
 use Rattle.std.specs.Str.{bytes_eq}
 use Rattle.std.proofs.lemmas.Bool.{cases_lt, both_ways, eqb-true}
-use Rattle.labels.specs.Spelling.{byte, continues_name, part}
+use Rattle.labels.specs.Spelling.{byte_at, continues_name, part}
 use Rattle.rules.specs.declared.node.RuleNode.{RuleNode}
 use Rattle.rules.specs.declared.syntax.ParsedNode.{ParsedNode}
 use Rattle.rules.specs.RuleNodes.{plain_nodes}
@@ -42,8 +42,8 @@ empty_long xs p n q i = go (cases_lt n i.close)
     go (inr h) =
         let named = name_long xs (p + 1) n i.name.0 in
         let late = i.tag.rest.late in
-        let stroke : byte xs (i.close - 1) ≡ code "/" = eqb-true (byte xs (i.close - 1)) (code "/") (sym i.slash) in
-        let in_name : continues_name (byte xs (i.close - 1)) ≡ true = i.name.0.ends.all (i.close - 1) (omega arith) (omega arith) in
+        let stroke : byte_at xs (i.close - 1) ≡ code "/" = eqb-true (byte_at xs (i.close - 1)) (code "/") (sym i.slash) in
+        let in_name : continues_name (byte_at xs (i.close - 1)) ≡ true = i.name.0.ends.all (i.close - 1) (omega arith) (omega arith) in
         absurd (both_ways _ (ap continues_name stroke) in_name)
 
 end_long : (xs : List ℕ) (p n q : ℕ) → IsEnd xs p n q → p + 4 ≤ q

@@ -1,7 +1,7 @@
 -- Rules written as records of three bytes: parent, edge, any.
 use Rattle.std.specs.Prelude.{◌≡◌, ℕ, ◌+◌, ◌*◌, ◌<◌, ◌≤◌, Bool, true, false, List, length, Some, None, Option, Result, MatchResult}
 use Rattle.std.specs.List.{slice_get}
-use Rattle.labels.specs.Spelling.{byte, part}
+use Rattle.labels.specs.Spelling.{byte_at, part}
 use Rattle.rules.specs.declared.node.Edge.{Edge}
 use Rattle.rules.specs.declared.node.Edge.TheVariants.{Child, Descendant}
 use Rattle.rules.specs.declared.node.RuleNode.{RuleNode}
@@ -37,7 +37,7 @@ pub data Writes (i : ℕ) : ℕ → ℕ → ℕ → RuleNode → Type 0 where
 
 -- the three bytes of a record write the rule node i
 abbrev pub RecordWrites : ℕ → List ℕ → RuleNode → Type 0
-RecordWrites i bs n = Writes i (byte bs 0) (byte bs 1) (byte bs 2) n
+RecordWrites i bs n = Writes i (byte_at bs 0) (byte_at bs 1) (byte_at bs 2) n
 
 -- record i of the bytes writes the rule node
 abbrev pub RecordAt : List ℕ → ℕ → RuleNode → Type 0

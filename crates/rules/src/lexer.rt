@@ -1,6 +1,6 @@
 //! The tokens of a rule text. Text and place go in, since tokens and refusals tell places: a cursor over both would be no plainer.
 ghost use Rattle.std.specs.Prelude.{◌≡◌, ◌<◌, ◌≤◌, false, length, MatchOption, slice_index};
-ghost use Rattle.labels.specs.Spelling.{is_white, starts_name, byte, Named};
+ghost use Rattle.labels.specs.Spelling.{is_white, starts_name, byte_at, Named};
 ghost use Rattle.rules.specs.Machine.{Next};
 
 use crate::syntax::{Kind, Token};
@@ -8,7 +8,7 @@ use labels::spelling::{NoName, name_end, rest, white_end};
 
 // The end of the name at the place, however long it is; none where no name begins.
 fn name_stop(text: &[u8], place: usize) -> Option<usize>
-    ensures { MatchOption result (starts_name (byte text.now place) ≡ false) (Named text.now place) }
+    ensures { MatchOption result (starts_name (byte_at text.now place) ≡ false) (Named text.now place) }
 {
     match name_end(text, place) {
         Ok(end) | Err(NoName::TooLong(end)) => Some(end),
@@ -18,7 +18,7 @@ fn name_stop(text: &[u8], place: usize) -> Option<usize>
 
 // The token at a place that is no white space; at the end of the text it is the end.
 fn token_at(text: &[u8], place: usize) -> Token
-    requires seen { place < length text.now → is_white (byte text.now place) ≡ false }
+    requires seen { place < length text.now → is_white (byte_at text.now place) ≡ false }
     ensures { Next text.now place result }
 {
     let (kind, len) = match name_stop(text, place) {

@@ -10,7 +10,7 @@ use Rattle.runs.specs.declared.call.Call.TheVariants.{Open, Close, Drop}
 use Rattle.runs.specs.Bits.{Has, SetOf}
 use Rattle.runs.specs.Answers.{Told}
 use Rattle.runs.specs.Picks.{In}
-use Rattle.runs.specs.Model.{Model, empty, innermost, KeptChild, MeetsAt, OccursAt, opening, closing, dropping, taking, Does}
+use Rattle.runs.specs.Model.{Model, empty, innermost, KeptChild, MeetsAt, OccursKept, opening, closing, dropping, taking, Does}
 use Rattle.runs.specs.Stands.{SetModel}
 use Rattle.runs.specs.Journal.{SetsOf, Carried}
 
@@ -92,7 +92,7 @@ module _ {L : Type 0} (rule : List RuleNode) (meets : L → ℕ → Type 0) wher
         let r = set_of m.nodes t.nodes c.nodes v h.0 h.1 h.2 in
         (h.0, r.0, r.1, (r.2 x).1 (l, h.3))
 
-    pub occurs_same : (v : ℕ) → OccursAt rule Has t v ↔ OccursAt rule meets m v
+    pub occurs_same : (v : ℕ) → OccursKept rule Has t v ↔ OccursKept rule meets m v
     occurs_same v = (
       occurs_like rule (KeptChild t) (KeptChild m) (MeetsAt Has t) (MeetsAt meets m) kept_there met_there v,
       occurs_like rule (KeptChild m) (KeptChild t) (MeetsAt meets m) (MeetsAt Has t) kept_back met_back v,

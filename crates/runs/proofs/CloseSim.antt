@@ -15,7 +15,7 @@ use Rattle.runs.specs.Words.{Words}
 use Rattle.runs.specs.LevelCalls.{Found, Closes, above, joined}
 use Rattle.runs.specs.Picks.{In}
 use Rattle.runs.specs.Answers.{told_by, closed}
-use Rattle.runs.specs.Model.{innermost, KeptChild, MeetsAt, OccursAt, closing, Does}
+use Rattle.runs.specs.Model.{innermost, KeptChild, MeetsAt, OccursKept, closing, Does}
 use Rattle.runs.specs.Stands.{SetModel, FitsAt, ClosedChild, FitsWithin, LevelStands, LevelsStand, Chain, Shows}
 use Rattle.runs.proofs.BitLaws.{has_or}
 use Rattle.runs.proofs.FitLaws.{found_fits, fits_found}
@@ -141,10 +141,10 @@ module _ (rule : List RuleNode) (m : SetModel) (v : ℕ) (vs cs ws cs' ws' : Lis
         )
 
 module _ (rule : List RuleNode) (ordered : Ordered rule) (some : 0 < length rule) (m : SetModel) where
-  occurs : (v : ℕ) → FitsAt rule m 0 v → OccursAt rule Has m v
+  occurs : (v : ℕ) → FitsAt rule m 0 v → OccursKept rule Has m v
   occurs v f = fits_embeds rule ordered some (KeptChild m) (MeetsAt Has m) v f
 
-  fitting : (v : ℕ) → OccursAt rule Has m v → FitsAt rule m 0 v
+  fitting : (v : ℕ) → OccursKept rule Has m v → FitsAt rule m 0 v
   fitting v o = embeds_fits rule ordered some (KeptChild m) (MeetsAt Has m) v o.0 o.1
 
   close_at : {s s' : Words} {r : Result Bool Refusal} (vs : List ℕ) → Shows rule s (with_path m vs) → Closes rule s r s'

@@ -16,7 +16,7 @@ use Rattle.rules.proofs.Answering.{fit, accepting}
 use Rattle.rules.proofs.Formed.{given_some, given_ordered}
 use Rattle.runs.specs.declared.call.Call.{Call}
 use Rattle.runs.specs.Model.{Model, empty}
-use Rattle.runs.specs.Examples.{Reports, WorkedTrees}
+use Rattle.runs.specs.Examples.{GivesNumbers, WorkedTrees}
 use Rattle.rules.specs.TestNames.{test_names}
 use Rattle.runs.proofs.OccursTest.{holds, holds_decides, after_all, all_accepted, plays}
 
@@ -51,7 +51,7 @@ module _ (text : List ℕ) (calls : List (Call (List ℕ))) (numbers : List ℕ)
   end = after_all rule test empty calls
 
   reports : (ltb 0 (length text) && leb (length text) text_limit) ≡ true → run (lex 0 0 text) start ≡ accepts parsed
-      → all_accepted rule test empty calls ≡ true → end.path ≡ [] → end.handed ++ end.waiting ≡ numbers → Reports text calls numbers
+      → all_accepted rule test empty calls ≡ true → end.path ≡ [] → end.handed ++ end.waiting ≡ numbers → GivesNumbers text calls numbers
   reports fits reads plays_on closed gives =
       let f = and_parts _ _ fits in
       let long : 0 < length text = ltb-true _ _ f.0 in

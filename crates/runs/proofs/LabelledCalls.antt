@@ -12,7 +12,7 @@ use Rattle.runs.specs.Bits.{Has, SetOf}
 use Rattle.runs.specs.Answers.{Told, taken}
 use Rattle.runs.specs.Model.{Model, Does, taking}
 use Rattle.runs.specs.Stands.{SetModel, Stands}
-use Rattle.runs.specs.Calls.{nodes_of, Moves, Opening, Steps, Taking}
+use Rattle.runs.specs.Calls.{rule_nodes_of, Moves, Opening, Steps, Taking}
 use Rattle.runs.specs.Journal.{Filled, meets, StandsAt, Carried}
 use Rattle.runs.proofs.CarriedLaws.{lift_open, lift_close, lift_drop, taking_carried}
 use Rattle.runs.proofs.TakeSim.{taken_min}
@@ -37,16 +37,16 @@ module _ {L : Type 0} (same : L → L → Bool) (rule : Rule) (labels : List L) 
     pub does : Does nodes tests m c r state
     pub stands : StandsAt same rule labels run' state
 
-  here : Stands (nodes_of run) run.state at.sets
+  here : Stands (rule_nodes_of run) run.state at.sets
   here = let P : Rule → Type 0 = λ r. Stands (rule_nodes r) run.state at.sets in subst P (sym at.rule_is) at.stands
 
-  there : (t' : SetModel) → Stands (nodes_of run) run'.state t' → Stands nodes run'.state t'
+  there : (t' : SetModel) → Stands (rule_nodes_of run) run'.state t' → Stands nodes run'.state t'
   there t' s = let P : Rule → Type 0 = λ r. Stands (rule_nodes r) run'.state t' in subst P at.rule_is s
 
-  by_rule : (k : Call ℕ) (r : Told) (t' : SetModel) → Does (nodes_of run) Has at.sets k r t' → Does nodes Has at.sets k r t'
+  by_rule : (k : Call ℕ) (r : Told) (t' : SetModel) → Does (rule_nodes_of run) Has at.sets k r t' → Does nodes Has at.sets k r t'
   by_rule k r t' d = let P : Rule → Type 0 = λ q. Does (rule_nodes q) Has at.sets k r t' in subst P at.rule_is d
 
-  played : run'.rule.now ≡ run.rule.now → (c : Call L) (k : Call ℕ) (r : Told) → Moves (nodes_of run) run.state k r run'.state
+  played : run'.rule.now ≡ run.rule.now → (c : Call L) (k : Call ℕ) (r : Told) → Moves (rule_nodes_of run) run.state k r run'.state
       → ((t' : SetModel) → Does nodes Has at.sets k r t' → (m' : Model L) × Does nodes tests m c r m' × Carried nodes tests m' t') → Played c r
   played rules c k r moves lift =
       let n = moves.model at.sets here in
@@ -67,11 +67,11 @@ module _ {L : Type 0} (same : L → L → Bool) (rule : Rule) (labels : List L) 
 
   -- a taking fills the front of the list with the oldest waiting numbers
   module _ (xs ys : List ℕ) (n : ℕ) (o : Taking run xs n ys run') where
-    next : (t' : SetModel) × Does (nodes_of run) Has at.sets (Take (length xs)) (taken n) t' × Stands (nodes_of run) run'.state t'
+    next : (t' : SetModel) × Does (rule_nodes_of run) Has at.sets (Take (length xs)) (taken n) t' × Stands (rule_nodes_of run) run'.state t'
     next = o.moves.moves.model at.sets here
 
     did : (taken n ≡ taken (min (length at.sets.waiting) (length xs))) × (next.0 ≡ taking at.sets (length xs))
-    did = took (nodes_of run) at.sets (length xs) next.1
+    did = took (rule_nodes_of run) at.sets (length xs) next.1
 
     waits : length at.sets.waiting ≡ length m.waiting
     waits = ap length at.carried.waiting

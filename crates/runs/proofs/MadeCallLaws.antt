@@ -14,7 +14,7 @@ use Rattle.runs.specs.Refusals.{number}
 use Rattle.runs.specs.Answers.{Told, told, told_by, count_taken, opened, closed, dropped, taken, refused}
 use Rattle.runs.specs.Model.{Model, Does, taking}
 use Rattle.runs.specs.Stands.{SetModel, Stands}
-use Rattle.runs.specs.Calls.{nodes_of, Opening, Steps, Taking}
+use Rattle.runs.specs.Calls.{rule_nodes_of, Opening, Steps, Taking}
 use Rattle.runs.specs.Journal.{Filled, meets, StandsAt}
 use Rattle.runs.specs.MadeCall.{Made}
 use Rattle.runs.proofs.LabelledCalls.{Played, played_open, played_close, played_drop, taken_count, taken_stands, hands_count, taken_filled}
@@ -114,11 +114,11 @@ module _ {L : Type 0} (same : L → L → Bool) (rule : Rule) (labels : List L) 
 
     -- a taking of as many numbers as wait and are asked for, at the front of the list
     pub made_take : (size count n : ℕ) (taken_list list : List ℕ) → c ≡ Take size → a ≡ Taken n
-        → ((t : SetModel) → Stands (nodes_of run) run.state t → count ≡ min (length t.waiting) size) → count ≤ length out
+        → ((t : SetModel) → Stands (rule_nodes_of run) run.state t → count ≡ min (length t.waiting) size) → count ≤ length out
         → Taking run (take count out) n taken_list run' → list ≡ taken_list ++ drop count out
         → Made same rule labels m c a out list run'
     made_take size count n taken_list list is answer waits fits o whole =
-        let s : Stands (nodes_of run) run.state at.sets = let P : Rule → Type 0 = λ r. Stands (rule_nodes r) run.state at.sets in subst P (sym at.rule_is) at.stands in
+        let s : Stands (rule_nodes_of run) run.state at.sets = let P : Rule → Type 0 = λ r. Stands (rule_nodes r) run.state at.sets in subst P (sym at.rule_is) at.stands in
         let front : List ℕ = take count out in
         let same_wait : length at.sets.waiting ≡ length m.waiting = ap length at.carried.waiting in
         let few : count ≡ min (length m.waiting) size = waits at.sets s ∙ ap (λ (k : ℕ). min k size) same_wait in

@@ -15,7 +15,7 @@ use Rattle.runs.specs.declared.call.Call.TheVariants.{Open, Close, Drop, Take}
 use Rattle.runs.specs.Limits.{depth_limit, waiting_limit, openings_limit}
 use Rattle.runs.specs.Picks.{In}
 use Rattle.runs.specs.Answers.{Told, Accepted}
-use Rattle.runs.specs.Model.{Model, KeptChild, MeetsAt, OccursAt, opening, closing, dropping, taking, Does, opens, selects, passes, drops, takes, Plays, done, more}
+use Rattle.runs.specs.Model.{Model, KeptChild, MeetsAt, OccursKept, opening, closing, dropping, taking, Does, opens, selects, passes, drops, takes, Plays, done, more}
 
 -- a condition that is decided where the one before it holds
 and_then : {P Q : Type 0} (x y : Bool) → Decides x P → (P → Decides y Q) → Decides (x && y) (P × Q)
@@ -263,7 +263,7 @@ module _ {A : Type 0} where
           (λ h. ((h.0, h.1), h.2, h.3))
           (holds_decides (slice_get m.nodes v) _ _ (λ e. decides e.1 x))
 
-      pub occurs_at_decides : (m : Model A) → ParentsFirst m.nodes → (v : ℕ) → Decides (occurs_at m v) (OccursAt rule meets m v)
+      pub occurs_at_decides : (m : Model A) → ParentsFirst m.nodes → (v : ℕ) → Decides (occurs_at m v) (OccursKept rule meets m v)
       occurs_at_decides m first = occurs_decides rule (length m.nodes) (child_at m) (meets_at m) (KeptChild m) (MeetsAt meets m) ordered some
           (child_decides m) (λ u v k. first v u k.0.0 k.0.1)
           (meets_decides m) (λ x v h. slice_get_within m.nodes v _ h.2)

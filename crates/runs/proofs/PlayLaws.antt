@@ -3,7 +3,7 @@ use Rattle.std.proofs.Common.{◌≡◌, ℕ, zero, suc, List, [], ◌∷◌, �
 use Rattle.rules.specs.declared.node.RuleNode.{RuleNode}
 use Rattle.runs.specs.declared.call.Call.{Call}
 use Rattle.runs.specs.Answers.{Told}
-use Rattle.runs.specs.Model.{Model, OccursAt, closing, dropping, Does, Plays}
+use Rattle.runs.specs.Model.{Model, OccursKept, closing, dropping, Does, Plays}
 
 module _ {A : Type 0} (rule : List RuleNode) (meets : A → ℕ → Type 0) where
   -- one call more at the end
@@ -53,8 +53,8 @@ module _ {A : Type 0} (rule : List RuleNode) (meets : A → ℕ → Type 0) wher
   heads : (ws vs us : List ℕ) (v u : ℕ) → ws ≡ v ∷ vs → ws ≡ u ∷ us → (v ≡ u) × (vs ≡ us)
   heads ws vs us v u e f = (let z : v ≡ u = cc in z, let z : vs ≡ us = cc in z)
 
-  clash : (m : Model A) (vs us : List ℕ) (v u : ℕ) → m.path ≡ v ∷ vs → m.path ≡ u ∷ us → OccursAt rule meets m v → (OccursAt rule meets m u → ⊥) → ⊥
-  clash m vs us v u e f p n = n (subst (OccursAt rule meets m) (heads m.path vs us v u e f).0 p)
+  clash : (m : Model A) (vs us : List ℕ) (v u : ℕ) → m.path ≡ v ∷ vs → m.path ≡ u ∷ us → OccursKept rule meets m v → (OccursKept rule meets m u → ⊥) → ⊥
+  clash m vs us v u e f p n = n (subst (OccursKept rule meets m) (heads m.path vs us v u e f).0 p)
 
   pub does_one : {m m₁ : Model A} {c : Call A} {t₁ : Told} → Does rule meets m c t₁ m₁ → {m₂ : Model A} {t₂ : Told} → Does rule meets m c t₂ m₂
       → (t₂ ≡ t₁) × (m₂ ≡ m₁)

@@ -9,7 +9,7 @@ use Rattle.rules.specs.Embedding.{ParentsFirst}
 use Rattle.runs.specs.declared.call.Call.{Call}
 use Rattle.runs.specs.Answers.{Told}
 use Rattle.runs.specs.Picks.{In, Once, Picks}
-use Rattle.runs.specs.Model.{Model, empty, KeptChild, MeetsAt, OccursAt, opening, closing, dropping, taking, Does, Plays, Selected}
+use Rattle.runs.specs.Model.{Model, empty, KeptChild, MeetsAt, OccursKept, opening, closing, dropping, taking, Does, Plays, Selected}
 use Rattle.runs.specs.Stands.{Chain}
 use Rattle.runs.proofs.FitLaws.{fits_moves}
 use Rattle.runs.proofs.EmbedLaws.{fits_embeds, embeds_fits}
@@ -21,7 +21,7 @@ module _ {A : Type 0} (rule : List RuleNode) (meets : A → ℕ → Type 0) (ord
   occurs_moves : (m m' : Model A) (Q : ℕ → Type 0)
       → ((u v : ℕ) → Q u → KeptChild m u v → Q v × KeptChild m' u v)
       → ((v : ℕ) → Q v → slice_get m.nodes v ≡ slice_get m'.nodes v)
-      → (v : ℕ) → Q v → OccursAt rule meets m v → OccursAt rule meets m' v
+      → (v : ℕ) → Q v → OccursKept rule meets m v → OccursKept rule meets m' v
   occurs_moves m m' Q down same v q o =
       fits_embeds rule ordered some (KeptChild m') (MeetsAt meets m') v
       (fits_moves rule (KeptChild m) (KeptChild m') (MeetsAt meets m) (MeetsAt meets m') Q down
@@ -66,7 +66,7 @@ module _ {A : Type 0} (rule : List RuleNode) (meets : A → ℕ → Type 0) (ord
     closing_once : Once (m.closed ++ v ∷ [])
     closing_once = once_push m.closed v s.selected.once (λ i. no_more v i (inl refl))
 
-    closing_sound : (ws : List ℕ) → Picks (OccursAt rule meets m) (m.closed ++ v ∷ []) (m.handed ++ (m.waiting ++ ws)) → Sound (closing m v vs ws)
+    closing_sound : (ws : List ℕ) → Picks (OccursKept rule meets m) (m.closed ++ v ∷ []) (m.handed ++ (m.waiting ++ ws)) → Sound (closing m v vs ws)
     closing_sound ws picked = record {
       chain = top.2;
       parents = s.parents;
@@ -75,20 +75,20 @@ module _ {A : Type 0} (rule : List RuleNode) (meets : A → ℕ → Type 0) (ord
       selected = record { picked = picked; once = closing_once };
     }
 
-    pub selects_sound : OccursAt rule meets m v → Sound (closing m v vs (v ∷ []))
+    pub selects_sound : OccursKept rule meets m v → Sound (closing m v vs (v ∷ []))
     selects_sound o =
-        let P : List ℕ → Type 0 = λ ws. Picks (OccursAt rule meets m) (m.closed ++ v ∷ []) ws in
+        let P : List ℕ → Type 0 = λ ws. Picks (OccursKept rule meets m) (m.closed ++ v ∷ []) ws in
         closing_sound (v ∷ []) (subst P (append_assoc m.handed m.waiting (v ∷ [])) (picks_keep v o s.selected.picked))
 
-    pub passes_sound : (OccursAt rule meets m v → ⊥) → Sound (closing m v vs [])
+    pub passes_sound : (OccursKept rule meets m v → ⊥) → Sound (closing m v vs [])
     passes_sound n =
-        let P : List ℕ → Type 0 = λ ws. Picks (OccursAt rule meets m) (m.closed ++ v ∷ []) (m.handed ++ ws) in
+        let P : List ℕ → Type 0 = λ ws. Picks (OccursKept rule meets m) (m.closed ++ v ∷ []) (m.handed ++ ws) in
         closing_sound [] (subst P (sym (append-nil m.waiting)) (picks_skip v n s.selected.picked))
 
     pub dropping_sound : Sound (dropping m v vs)
     dropping_sound =
         let Q : ℕ → Type 0 = Off m v vs top s.parents in
-        let same : (d : ℕ) → In d m.closed → OccursAt rule meets m d ↔ OccursAt rule meets (dropping m v vs) d = λ d i. (
+        let same : (d : ℕ) → In d m.closed → OccursKept rule meets m d ↔ OccursKept rule meets (dropping m v vs) d = λ d i. (
           occurs_moves m (dropping m v vs) Q (drop_fw m v vs top s.parents) (λ u q. refl) d (no_more d i),
           occurs_moves (dropping m v vs) m Q (drop_bw m v vs top s.parents) (λ u q. refl) d (no_more d i),
         ) in
@@ -98,7 +98,7 @@ module _ {A : Type 0} (rule : List RuleNode) (meets : A → ℕ → Type 0) (ord
           inside = drop_inside m v vs top s.parents s.inside;
           settled = λ d i. ((s.settled d i).0, λ j. no_more d i (inr j));
           selected = record {
-            picked = picks_like (OccursAt rule meets m) (OccursAt rule meets (dropping m v vs)) s.selected.picked same;
+            picked = picks_like (OccursKept rule meets m) (OccursKept rule meets (dropping m v vs)) s.selected.picked same;
             once = s.selected.once;
           };
         }
@@ -107,7 +107,7 @@ module _ {A : Type 0} (rule : List RuleNode) (meets : A → ℕ → Type 0) (ord
   opening_sound m a s =
       let Q : ℕ → Type 0 = Off₁ m a s.chain s.parents s.inside in
       let same = same₁ m a s.chain s.parents s.inside in
-      let both : (d : ℕ) → In d m.closed → OccursAt rule meets m d ↔ OccursAt rule meets (opening m a) d = λ d i. (
+      let both : (d : ℕ) → In d m.closed → OccursKept rule meets m d ↔ OccursKept rule meets (opening m a) d = λ d i. (
         occurs_moves m (opening m a) Q (open_fw m a s.chain s.parents s.inside) same d (s.settled d i),
         occurs_moves (opening m a) m Q (open_bw m a s.chain s.parents s.inside) (λ u q. sym (same u q)) d (s.settled d i),
       ) in
@@ -120,7 +120,7 @@ module _ {A : Type 0} (rule : List RuleNode) (meets : A → ℕ → Type 0) (ord
           ⊎_elim (λ e. let z : ⊥ = omega arith in z) (s.settled d i).1,
         );
         selected = record {
-          picked = picks_like (OccursAt rule meets m) (OccursAt rule meets (opening m a)) s.selected.picked both;
+          picked = picks_like (OccursKept rule meets m) (OccursKept rule meets (opening m a)) s.selected.picked both;
           once = s.selected.once;
         };
       }
@@ -132,7 +132,7 @@ module _ {A : Type 0} (rule : List RuleNode) (meets : A → ℕ → Type 0) (ord
     inside = s.inside;
     settled = s.settled;
     selected = record {
-      picked = let P : List ℕ → Type 0 = λ ws. Picks (OccursAt rule meets m) m.closed ws in
+      picked = let P : List ℕ → Type 0 = λ ws. Picks (OccursKept rule meets m) m.closed ws in
           subst P (ap (λ (ws : List ℕ). m.handed ++ ws) (sym (take-append-drop n m.waiting)) ∙ sym (append_assoc m.handed (take n m.waiting) (drop n m.waiting))) s.selected.picked;
       once = s.selected.once;
     };

@@ -12,11 +12,11 @@ use Rattle.runs.specs.Answers.{Told, taken}
 use Rattle.runs.specs.Model.{Does}
 use Rattle.runs.specs.Stands.{SetModel, Stands}
 
-abbrev pub nodes_of : Run → List RuleNode
-nodes_of run = rule_nodes run.rule.now
+abbrev pub rule_nodes_of : Run → List RuleNode
+rule_nodes_of run = rule_nodes run.rule.now
 
 abbrev pub StandsFor : Run → SetModel → Type 0
-StandsFor run m = Stands (nodes_of run) run.state m
+StandsFor run m = Stands (rule_nodes_of run) run.state m
 
 -- n is what f tells of every state that the run stands for
 abbrev pub Tells : Run → (SetModel → ℕ) → ℕ → Type 0
@@ -41,14 +41,14 @@ pub record MovesTake (rule : List RuleNode) (s : Levels) (xs : List ℕ) (n : �
 -- a call of a run, which keeps its rule
 pub record Steps (run : Run) (c : Call ℕ) (t : Told) (run' : Run) : Type 0 where
   pub rule : run'.rule.now ≡ run.rule.now
-  pub moves : Moves (nodes_of run) run.state c t run'.state
+  pub moves : Moves (rule_nodes_of run) run.state c t run'.state
 
 -- the opening of a node with this label, lent this list of labels; the run keeps its rule
 pub record Opening {L : Type 0} (same : L → L → Bool) (run : Run) (labels : List L) (label : L) (t : Told) (run' : Run) : Type 0 where
   pub rule : run'.rule.now ≡ run.rule.now
-  pub moves : MovesOpen (nodes_of run) run.state (Meets same (nodes_of run) labels label) t run'.state
+  pub moves : MovesOpen (rule_nodes_of run) run.state (Meets same (rule_nodes_of run) labels label) t run'.state
 
 -- a taking of a run into the list xs, which is ys after it; the run keeps its rule
 pub record Taking (run : Run) (xs : List ℕ) (n : ℕ) (ys : List ℕ) (run' : Run) : Type 0 where
   pub rule : run'.rule.now ≡ run.rule.now
-  pub moves : MovesTake (nodes_of run) run.state xs n ys run'.state
+  pub moves : MovesTake (rule_nodes_of run) run.state xs n ys run'.state

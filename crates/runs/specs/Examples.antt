@@ -30,8 +30,8 @@ tree (b ∷ bs) = calls_of b (slice_index bs 0) ++ tree bs
 
 -- The text gives a rule, and the calls, all accepted, from the empty model on until nothing is open, select the nodes with these
 -- numbers, in closing order. Labels are names, as their bytes.
-abbrev pub Reports : List ℕ → List (Call (List ℕ)) → List ℕ → Type 0
-Reports text calls numbers =
+abbrev pub GivesNumbers : List ℕ → List (Call (List ℕ)) → List ℕ → Type 0
+GivesNumbers text calls numbers =
     (ns : List ParsedNode) × TextGives text ns
     × (ts : List Told) × (m : Model (List ℕ))
     × Plays (plain_nodes ns) (Meets bytes_eq (plain_nodes ns) (test_names text ns)) empty calls ts m
@@ -39,16 +39,16 @@ Reports text calls numbers =
 
 -- the trees of some texts; nodes are numbered from 0 on as they are opened
 pub record WorkedTrees : Type 0 where
-  pub nested : Reports (codes "//a[a]") (tree (codes "a(a(a))")) (1 ∷ 0 ∷ [])
+  pub nested : GivesNumbers (codes "//a[a]") (tree (codes "a(a(a))")) (1 ∷ 0 ∷ [])
   -- one child is enough for both predicates
-  pub shared : Reports (codes "//a[b][b]") (tree (codes "a(b)")) (0 ∷ [])
+  pub shared : GivesNumbers (codes "//a[b][b]") (tree (codes "a(b)")) (0 ∷ [])
   -- no b has both children
-  pub one_branch : Reports (codes "//a[b[c][d]]") (tree (codes "a(b(c) b(d))")) []
-  pub either_branch : Reports (codes "//a[b/c][b/d]") (tree (codes "a(b(c) b(d))")) (0 ∷ [])
+  pub one_branch : GivesNumbers (codes "//a[b[c][d]]") (tree (codes "a(b(c) b(d))")) []
+  pub either_branch : GivesNumbers (codes "//a[b/c][b/d]") (tree (codes "a(b(c) b(d))")) (0 ∷ [])
   -- c is no child of a
-  pub not_child : Reports (codes "//a[c]") (tree (codes "a(b(c))")) []
-  pub descends : Reports (codes "//a[.//c]") (tree (codes "a(b(c))")) (0 ∷ [])
+  pub not_child : GivesNumbers (codes "//a[c]") (tree (codes "a(b(c))")) []
+  pub descends : GivesNumbers (codes "//a[.//c]") (tree (codes "a(b(c))")) (0 ∷ [])
   -- a is not below itself
-  pub proper : Reports (codes "//a[.//a]") (tree (codes "a")) []
-  pub inner : Reports (codes "//*[*]") (tree (codes "a(b c(d))")) (2 ∷ 0 ∷ [])
-  pub dropped_child : Reports (codes "//a[b]") (Open (codes "a") ∷ Open (codes "b") ∷ Drop ∷ Close ∷ []) []
+  pub proper : GivesNumbers (codes "//a[.//a]") (tree (codes "a")) []
+  pub inner : GivesNumbers (codes "//*[*]") (tree (codes "a(b c(d))")) (2 ∷ 0 ∷ [])
+  pub dropped_child : GivesNumbers (codes "//a[b]") (Open (codes "a") ∷ Open (codes "b") ∷ Drop ∷ Close ∷ []) []

@@ -38,8 +38,8 @@ MeetsAt meets m = MeetsIn meets m.nodes
 
 -- The rule occurs at v, in the tree of v and the nodes below it. What was dropped is no child of a node, so neither it nor what
 -- lies below it is in that tree.
-abbrev pub OccursAt : {A : Type 0} → List RuleNode → (A → ℕ → Type 0) → Model A → ℕ → Type 0
-OccursAt rule meets m v = Occurs rule (KeptChild m) (MeetsAt meets m) v
+abbrev pub OccursKept : {A : Type 0} → List RuleNode → (A → ℕ → Type 0) → Model A → ℕ → Type 0
+OccursKept rule meets m v = Occurs rule (KeptChild m) (MeetsAt meets m) v
 
 -- the model after each kind of call that is accepted
 module _ {A : Type 0} (m : Model A) where
@@ -67,11 +67,11 @@ pub data Does {A : Type 0} (rule : List RuleNode) (meets : A → ℕ → Type 0)
   opens : (a : A) → length m.path < depth_limit → length m.nodes < openings_limit
       → Does rule meets m (Open a) (opened (length m.nodes)) (opening m a)
   none_to_close : m.path ≡ [] → Does rule meets m Close (refused 20) m
-  waiting_full : (v : ℕ) (vs : List ℕ) → m.path ≡ v ∷ vs → OccursAt rule meets m v → length m.waiting ≡ waiting_limit
+  waiting_full : (v : ℕ) (vs : List ℕ) → m.path ≡ v ∷ vs → OccursKept rule meets m v → length m.waiting ≡ waiting_limit
       → Does rule meets m Close (refused 21) m
-  selects : (v : ℕ) (vs : List ℕ) → m.path ≡ v ∷ vs → OccursAt rule meets m v → length m.waiting < waiting_limit
+  selects : (v : ℕ) (vs : List ℕ) → m.path ≡ v ∷ vs → OccursKept rule meets m v → length m.waiting < waiting_limit
       → Does rule meets m Close (closed true) (closing m v vs (v ∷ []))
-  passes : (v : ℕ) (vs : List ℕ) → m.path ≡ v ∷ vs → (OccursAt rule meets m v → ⊥)
+  passes : (v : ℕ) (vs : List ℕ) → m.path ≡ v ∷ vs → (OccursKept rule meets m v → ⊥)
       → Does rule meets m Close (closed false) (closing m v vs [])
   none_to_drop : m.path ≡ [] → Does rule meets m Drop (refused 20) m
   drops : (v : ℕ) (vs : List ℕ) → m.path ≡ v ∷ vs → Does rule meets m Drop dropped (dropping m v vs)
@@ -87,5 +87,5 @@ module _ {A : Type 0} (rule : List RuleNode) (meets : A → ℕ → Type 0) wher
   -- The numbers handed out, and then those that wait, are the closed nodes at which the rule occurs, in closing order. No
   -- number is closed twice, so each of them is there once.
   pub record Selected (m : Model A) : Type 0 where
-    pub picked : Picks (OccursAt rule meets m) m.closed (m.handed ++ m.waiting)
+    pub picked : Picks (OccursKept rule meets m) m.closed (m.handed ++ m.waiting)
     pub once : Once m.closed

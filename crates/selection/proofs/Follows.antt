@@ -8,7 +8,7 @@ use Rattle.runs.specs.declared.call.Call.TheVariants as call
 use Rattle.runs.specs.Limits.{depth_limit, openings_limit}
 use Rattle.runs.specs.Answers.{Told, opened, closed, refused}
 use Rattle.runs.specs.Picks.{In, Picks}
-use Rattle.runs.specs.Model.{Model, innermost, empty, OccursAt, closing, taking, Does}
+use Rattle.runs.specs.Model.{Model, innermost, empty, OccursKept, closing, taking, Does}
 use Rattle.runs.proofs.PickLaws.{picks_like}
 use Rattle.runs.proofs.SelectedLaws.{Sound, empty_sound, does_sound, taking_sound}
 use Rattle.sources.specs.declared.event.Event.{Event}
@@ -89,7 +89,7 @@ module _ {L : Type 0} (same : L → L → Bool) (rule : List RuleNode) (labels :
     reported room after fits =
         let O : ℕ → Type 0 = OccursIn same rule labels (nodes (before ++ after)) in
         let none : m.handed ++ m.waiting ≡ m.handed = ap (λ (ws : List ℕ). m.handed ++ ws) f.taken ∙ append-nil m.handed in
-        let k : Picks O m.closed (m.handed ++ m.waiting) = picks_like (OccursAt rule tests m) O f.sound.selected.picked (λ v i.
+        let k : Picks O m.closed (m.handed ++ m.waiting) = picks_like (OccursKept rule tests m) O f.sound.selected.picked (λ v i.
         let s = f.sound.settled v i in
         occurs_whole same rule labels ordered some m f.kept before after f.nodes_are f.path_is f.sound.chain v s.0 s.1) in
         let p : Picks O (closing_order before) m.handed =

@@ -8,7 +8,7 @@ use Rattle.rules.specs.declared.node.RuleNode.{RuleNode}
 use Rattle.rules.specs.Rule.{Ordered}
 use Rattle.rules.specs.Embedding.{Nodes, ChildIn, MeetsIn, Meets, OccursIn}
 use Rattle.runs.specs.Picks.{In}
-use Rattle.runs.specs.Model.{Model, KeptChild, MeetsAt, OccursAt}
+use Rattle.runs.specs.Model.{Model, KeptChild, MeetsAt, OccursKept}
 use Rattle.runs.specs.Stands.{Chain}
 use Rattle.runs.proofs.TreeLaws.{slice_get_before, path_up}
 use Rattle.runs.proofs.FitLaws.{fits_moves}
@@ -72,7 +72,7 @@ module _ {L : Type 0} (same : L → L → Bool) (rule : List RuleNode) (labels :
   tests_up : (x v : ℕ) → Settled v → MeetsIn tests all x v → MeetsAt tests m x v
   tests_up x v s h = (h.0, h.1, sym (same_node v s.0) ∙ h.2, h.3)
 
-  pub occurs_whole : (v : ℕ) → v < length m.nodes → (In v m.path → ⊥) → OccursAt rule tests m v ↔ OccursIn same rule labels (nodes (before ++ after)) v
+  pub occurs_whole : (v : ℕ) → v < length m.nodes → (In v m.path → ⊥) → OccursKept rule tests m v ↔ OccursIn same rule labels (nodes (before ++ after)) v
   occurs_whole v h n = (
     λ o. fits_embeds rule ordered some (ChildIn all) (MeetsIn tests all) v
         (fits_moves rule (KeptChild m) (ChildIn all) (MeetsAt tests m) (MeetsIn tests all) Settled down tests_down (h, n)

@@ -1,6 +1,6 @@
 use Rattle.std.proofs.Common.{◌≡◌, ℕ, zero, suc, ◌+◌, ◌-◌, ◌<◌, ◌≤◌, Bool, true, false, ltb, List, [], ◌∷◌, ◌++◌, length, Some, None, Option, sym, refl, ap, ◌∙◌, add-one, arith, ltb-false, ltb-true, lt-ltb}
 use Rattle.sources.specs.declared.event.Event.TheVariants.{Open}
-use Rattle.sources.specs.Table.{closings, events_from, ending_from, Allowed, deeper, shallower, Listing}
+use Rattle.sources.specs.Table.{closings, events_from, ending_from, Allowed, as_deep, shallower, Listing}
 use Rattle.sources.specs.Table.Listing.{finished, refused, opened}
 use Rattle.sources.specs.declared.record.Record.{Record}
 use Rattle.sources.specs.declared.fault.TableFault.{TableFault}
@@ -27,11 +27,11 @@ not_allowed : (l d : ℕ) → l < d → Allowed (before_of l) d → ⊥
 not_allowed zero d h a = omega arith
 not_allowed (suc l) d h a = omega arith
 
-deeper_depths : (d l : ℕ) → deeper d (depths l) ≡ l - d
+deeper_depths : (d l : ℕ) → as_deep d (depths l) ≡ l - d
 deeper_depths d zero = omega arith
 deeper_depths d (suc l) = by_test (deeper_depths d l) (ltb l d) refl
   where
-    by_test : deeper d (depths l) ≡ l - d → (b : Bool) → ltb l d ≡ b → deeper d (depths (suc l)) ≡ suc l - d
+    by_test : as_deep d (depths l) ≡ l - d → (b : Bool) → ltb l d ≡ b → as_deep d (depths (suc l)) ≡ suc l - d
     by_test e true t = let h = ltb-true l d t in rw (t, e) (omega arith)
     by_test e false t = let h = ltb-false l d t in rw (t, e) (omega arith)
 
@@ -64,7 +64,7 @@ listed {L} (r ∷ rs) n l = by_test (listed rs (n + 1) (suc r.depth)) (ltb l r.d
         let es = events_from (suc r.depth) rs in
         let end = ending_from (n + 1) (suc r.depth) rs in
         let on : Listing (n + 1) (Some r.depth) (r.depth ∷ shallower r.depth (depths l)) rs es end = rw (shallower_depths r.depth l le) go in
-        let h : Listing n (before_of l) (depths l) (r ∷ rs) (closings (deeper r.depth (depths l)) ++ Open r.label ∷ es) end =
+        let h : Listing n (before_of l) (depths l) (r ∷ rs) (closings (as_deep r.depth (depths l)) ++ Open r.label ∷ es) end =
         opened n (before_of l) (depths l) r rs _ _ (allowed l r.depth le) on in
         let k : Listing n (before_of l) (depths l) (r ∷ rs) (closings (l - r.depth) ++ Open r.label ∷ es) end = rw (deeper_depths r.depth l) at h in
         rw (t, add-one) k
@@ -78,7 +78,7 @@ once n before nodes rs es ds end to (refused _ _ _ r rs₁ h) (opened _ _ _ _ _ 
 once n before nodes rs es ds end to (opened _ _ _ r rs₁ fs _ a l) (refused _ _ _ _ _ g) = absurd (g a)
 once n before nodes rs es ds end to (opened _ _ _ r rs₁ fs _ a l) (opened _ _ _ _ _ bs _ b m) =
     let h = once (n + 1) (Some r.depth) (r.depth ∷ shallower r.depth nodes) rs₁ fs bs end to l m in
-    (ap (λ x. closings (deeper r.depth nodes) ++ Open r.label ∷ x) h.0, h.1)
+    (ap (λ x. closings (as_deep r.depth nodes) ++ Open r.label ∷ x) h.0, h.1)
 
 pub only_events : {L : Type 0} (rs : List (Record L)) (ds : List (Event L)) (to : Option TableFault) → Listing 0 None [] rs ds to → ds ≡ events_from 0 rs
 only_events rs ds to d = (once 0 None [] rs (events_from 0 rs) ds (ending_from 0 0 rs) to (listed rs 0 0) d).0

@@ -16,10 +16,10 @@ abbrev pub Allowed : Option ℕ → ℕ → Type 0
 Allowed None depth = depth ≡ 0
 Allowed (Some before) depth = depth ≤ before + 1
 
--- of the depths of the open nodes, how many are d or deeper, and those that are not
-abbrev pub deeper : ℕ → List ℕ → ℕ
-deeper d [] = 0
-deeper d (x ∷ xs) = cond (nat_lt x d) (deeper d xs) (suc (deeper d xs))
+-- of the depths of the open nodes, how many are as deep as d or deeper, and those that are not
+abbrev pub as_deep : ℕ → List ℕ → ℕ
+as_deep d [] = 0
+as_deep d (x ∷ xs) = cond (nat_lt x d) (as_deep d xs) (suc (as_deep d xs))
 
 abbrev pub shallower : ℕ → List ℕ → List ℕ
 shallower d [] = []
@@ -33,7 +33,7 @@ pub data Listing {L : Type 0} : ℕ → Option ℕ → List ℕ → List (Record
   opened : (n : ℕ) (before : Option ℕ) (depths : List ℕ) (r : Record L) (rs : List (Record L)) (es : List (Event L)) (end : Option TableFault) →
       Allowed before r.depth →
       Listing (n + 1) (Some r.depth) (r.depth ∷ shallower r.depth depths) rs es end →
-      Listing n before depths (r ∷ rs) (closings (deeper r.depth depths) ++ Open r.label ∷ es) end
+      Listing n before depths (r ∷ rs) (closings (as_deep r.depth depths) ++ Open r.label ∷ es) end
 
 -- Of the records before, the last one first, each with its number and depth: the first that is less deep than d
 abbrev pub above : ℕ → List (ℕ × ℕ) → Option ℕ

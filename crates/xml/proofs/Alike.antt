@@ -2,7 +2,7 @@
 use Rattle.std.proofs.Common.{◌≡◌, ℕ, ◌+◌, ◌-◌, ◌<◌, ◌≤◌, Bool, true, false, not, cond, ◌&&◌, ◌||◌, ◌==◌, List, [], ◌∷◌, ◌++◌, length, take, drop, sym, refl, ap, ap₂, ◌∙◌, subst, arith, length-drop, codes}
 use Prim.Native.Char.{code}
 use Rattle.std.proofs.lemmas.List.{take-append-drop, length-take-le, length-append, get_or_append_left, take-append-le, drop-append-le}
-use Rattle.labels.specs.Spelling.{byte, part, is_white, starts_name, continues_name, Longest, Spelled}
+use Rattle.labels.specs.Spelling.{byte_at, part, is_white, starts_name, continues_name, Longest, Spelled}
 use Rattle.xml.specs.Bytes.{plain, apart, Stands}
 use Rattle.xml.specs.Markup.{markup, behind, two_dashes, IsComment, IsInstruction, IsStart, IsEnd}
 use Rattle.xml.specs.declared.markup.Markup.{Markup}
@@ -71,7 +71,7 @@ markup_front (a ∷ b ∷ c ∷ d ∷ fs) us vs h = refl
 pub record Alike (xs ys : List ℕ) (p : ℕ) : Type 0 where
   pub here : p ≤ length xs
   pub there : p ≤ length ys
-  pub bytes : (i : ℕ) → i < p → byte ys i ≡ byte xs i
+  pub bytes : (i : ℕ) → i < p → byte_at ys i ≡ byte_at xs i
   pub parts : (i j : ℕ) → i ≤ j → j ≤ p → part ys i j ≡ part xs i j
   pub begins : (i : ℕ) → i + need (markup (drop i xs)) ≤ p → markup (drop i ys) ≡ markup (drop i xs)
 
@@ -107,7 +107,7 @@ runs_on ok to end end' b d h g same l =
 
 module _ (xs ys : List ℕ) (p : ℕ) (a : Alike xs ys p) where
   -- what holds of a byte
-  at_byte : {X : Type 0} (f : ℕ → X) (i : ℕ) → i < p → f (byte ys i) ≡ f (byte xs i)
+  at_byte : {X : Type 0} (f : ℕ → X) (i : ℕ) → i < p → f (byte_at ys i) ≡ f (byte_at xs i)
   at_byte f i l = ap f (a.bytes i l)
 
   stands_on : (w : List ℕ) (i : ℕ) → i + length w ≤ p → Stands xs w i → Stands ys w i
@@ -121,11 +121,11 @@ module _ (xs ys : List ℕ) (p : ℕ) (a : Alike xs ys p) where
       runs_on (apart xs b c) (apart ys b c) (length xs) (length ys) q d (omega arith) (omega arith)
       (λ i g. ap₂ (λ x y. not (x == b && y == c)) (a.bytes i (omega arith)) (a.bytes (i + 1) (omega arith))) h
 
-  run_on : (ok : ℕ → Bool) (q d : ℕ) → d < p → Longest (λ i. ok (byte xs i)) (length xs) q d → Longest (λ i. ok (byte ys i)) (length ys) q d
+  run_on : (ok : ℕ → Bool) (q d : ℕ) → d < p → Longest (λ i. ok (byte_at xs i)) (length xs) q d → Longest (λ i. ok (byte_at ys i)) (length ys) q d
   run_on ok q d l h =
       let k = a.here in
       let m = a.there in
-      runs_on (λ i. ok (byte xs i)) (λ i. ok (byte ys i)) (length xs) (length ys) q d (omega arith) (omega arith) (λ i g. at_byte ok i (omega arith)) h
+      runs_on (λ i. ok (byte_at xs i)) (λ i. ok (byte_at ys i)) (length xs) (length ys) q d (omega arith) (omega arith) (λ i g. at_byte ok i (omega arith)) h
 
   pub comment_on : (i q : ℕ) → q ≤ p → IsComment xs i q → IsComment ys i q
   comment_on i q l d = let e = d.ends in record {

@@ -1,7 +1,7 @@
 -- What goes by between tags.
 use Rattle.std.proofs.Common.{◌≡◌, ℕ, ◌+◌, Bool, true, false, ◌⊎◌, List, [], ◌∷◌, length, drop, sym, refl, ap, ◌∙◌, subst, inl, inr, arith}
 use Rattle.std.proofs.lemmas.Bool.{both_ways}
-use Rattle.labels.specs.Spelling.{byte, is_white}
+use Rattle.labels.specs.Spelling.{byte_at, is_white}
 use Rattle.xml.specs.Faults.{scan_number, scan_place}
 use Rattle.xml.specs.Markup.{markup, IsComment, IsInstruction, CommentFault, InstructionFault}
 use Rattle.xml.specs.Reading.{Found, Finds, FindsAt}
@@ -10,7 +10,7 @@ use Rattle.xml.specs.Reading.Finds.{text, comment, instruction}
 use Rattle.xml.specs.FaultLaws.{no_text, comment_fault, instruction_fault, declaration, cut, stray}
 use Rattle.xml.specs.Inner.{stop_markup, some, GoesBy, Refused, Passes}
 use Rattle.xml.specs.Inner.Passes.{here, on}
-use Rattle.xml.specs.Documents.{Begins, Misc}
+use Rattle.xml.specs.Documents.{StartsAt, Misc}
 use Rattle.xml.specs.Documents.Misc.{space, comment as comment_misc, instruction as instruction_misc}
 use Rattle.xml.specs.declared.markup.Stop.{Stop}
 use Rattle.xml.specs.declared.markup.Markup.{Markup}
@@ -30,12 +30,12 @@ found_at xs p names rooted j k s e f d = found xs p names rooted (stop_markup k)
 
 -- what was found, by the markup
 pub data Skipped (xs : List ℕ) (p q : ℕ) (names : List (List ℕ)) : Type 0 where
-  by_text : Begins xs p Text → q ≡ p + 1 → (names ≡ [] → is_white (byte xs p) ≡ true) → Skipped xs p q names
-  by_comment : Begins xs p Comment → IsComment xs p q → Skipped xs p q names
-  by_instruction : Begins xs p Instruction → IsInstruction xs p q → Skipped xs p q names
+  by_text : StartsAt xs p Text → q ≡ p + 1 → (names ≡ [] → is_white (byte_at xs p) ≡ true) → Skipped xs p q names
+  by_comment : StartsAt xs p Comment → IsComment xs p q → Skipped xs p q names
+  by_instruction : StartsAt xs p Instruction → IsInstruction xs p q → Skipped xs p q names
 
 pub skips_from : (xs : List ℕ) (p : ℕ) (names : List (List ℕ)) (rooted : Bool) (k : Markup) (q : ℕ) →
-    Begins xs p k → Finds xs p names rooted k (skips q) → Skipped xs p q names
+    StartsAt xs p k → Finds xs p names rooted k (skips q) → Skipped xs p q names
 skips_from xs p names rooted k q b (text h) = by_text b refl h
 skips_from xs p names rooted k q b (comment h) = by_comment b h
 skips_from xs p names rooted k q b (instruction h) = by_instruction b h
@@ -56,14 +56,14 @@ none_is [] e = refl
 none_is (n ∷ ns) e = let z : ◌≡◌ {A = ℕ} 0 1 = cc in absurd (omega arith)
 
 module _ (xs : List ℕ) (inside : Bool) (p : ℕ) where
-  pub text_by : Text ≡ markup (drop p xs) → ((inside ≡ true) ⊎ (is_white (byte xs p) ≡ true)) → GoesBy xs inside p (p + 1)
+  pub text_by : Text ≡ markup (drop p xs) → ((inside ≡ true) ⊎ (is_white (byte_at xs p) ≡ true)) → GoesBy xs inside p (p + 1)
   text_by e h names rooted i = found xs p names rooted Text _ e (text (λ nil. go nil h))
     where
-      go : names ≡ [] → ((inside ≡ true) ⊎ (is_white (byte xs p) ≡ true)) → is_white (byte xs p) ≡ true
+      go : names ≡ [] → ((inside ≡ true) ⊎ (is_white (byte_at xs p) ≡ true)) → is_white (byte_at xs p) ≡ true
       go nil (inl t) = absurd (both_ways (some names) (ap some nil) (i ∙ t))
       go nil (inr w) = w
 
-  pub text_no : Text ≡ markup (drop p xs) → inside ≡ false → is_white (byte xs p) ≡ false → Refused xs inside p (Scan (Byte p))
+  pub text_no : Text ≡ markup (drop p xs) → inside ≡ false → is_white (byte_at xs p) ≡ false → Refused xs inside p (Scan (Byte p))
   text_no e f w names rooted i = found xs p names rooted Text _ e (no_text (none_is names (i ∙ f)) w)
 
   pub comment_by : (q : ℕ) → Comment ≡ markup (drop p xs) → IsComment xs p q → GoesBy xs inside p q

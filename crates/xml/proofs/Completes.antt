@@ -5,7 +5,7 @@ use Rattle.std.proofs.lemmas.List.{get_or_append_left, length-take-le, get_or-ta
 use Rattle.std.proofs.Math.Seq.{take-append_seam, drop-append-add, get_or-append_seam}
 use Rattle.sources.specs.declared.event.Event.{Event}
 use Rattle.sources.specs.declared.event.Event.TheVariants.{Open, Close}
-use Rattle.labels.specs.Spelling.{byte, part, is_white, starts_name, continues_name, name_limit, Spelled}
+use Rattle.labels.specs.Spelling.{byte_at, part, is_white, starts_name, continues_name, name_limit, Spelled}
 use Rattle.xml.specs.Markup.{markup, IsStart, IsEnd}
 use Rattle.xml.specs.Reading.{Reads}
 use Rattle.xml.specs.Reading.Finds.{finish, start, end_tag}
@@ -19,8 +19,8 @@ use Rattle.xml.proofs.Between.{found}
 
 -- the bytes are a name's
 pub record NameBytes (w : List ℕ) : Type 0 where
-  pub begins : starts_name (byte w 0) ≡ true
-  pub all : (j : ℕ) → j < length w → continues_name (byte w j) ≡ true
+  pub begins : starts_name (byte_at w 0) ≡ true
+  pub all : (j : ℕ) → j < length w → continues_name (byte_at w j) ≡ true
   pub few : length w ≤ name_limit
 
 abbrev pub AllNames : List (List ℕ) → Type 0
@@ -33,11 +33,11 @@ part_name xs p n h =
     let within = h.0.ends.within in
     let stands = test_stands xs p starts_name refl h.0.begins in
     let l : length (part xs p n) ≡ n - p = length-take-le (n - p) (drop p xs) (omega (arith, length-drop p xs)) in
-    let at : (j : ℕ) → j < n - p → byte (part xs p n) j ≡ byte xs (p + j) = λ j g. get_or-take (n - p) (drop p xs) j 0 g ∙ get_or-drop p xs j 0 in
+    let at : (j : ℕ) → j < n - p → byte_at (part xs p n) j ≡ byte_at xs (p + j) = λ j g. get_or-take (n - p) (drop p xs) j 0 g ∙ get_or-drop p xs j 0 in
     let some : p < n = some_bytes in
     let zero : p + 0 ≡ p = omega arith in
     record {
-      begins = ap starts_name (at 0 (omega arith) ∙ ap (byte xs) zero) ∙ h.0.begins;
+      begins = ap starts_name (at 0 (omega arith) ∙ ap (byte_at xs) zero) ∙ h.0.begins;
       all = λ j g. ap continues_name (at j (omega arith)) ∙ h.0.ends.all (p + j) (omega arith) (omega arith);
       few = let w = h.1 in omega arith;
     }
@@ -59,8 +59,8 @@ ended ys w more s name e =
     let on : drop (s + 2) ys ≡ bs = sym (drop-drop 2 s ys) ∙ ap (drop 2) e in
     let f = from_place ys bs (s + 2) (sym on) in
     let n = s + 2 + length w in
-    let at : (j : ℕ) → j < length w → byte ys (s + 2 + j) ≡ byte w j = λ j g. sym (f.at j) ∙ get_or_append_left w (code ">" ∷ more) 0 j g in
-    let shut : byte ys n ≡ code ">" = sym (f.at (length w)) ∙ get_or-append_seam w (code ">") more 0 in
+    let at : (j : ℕ) → j < length w → byte_at ys (s + 2 + j) ≡ byte_at w j = λ j g. sym (f.at j) ∙ get_or_append_left w (code ">" ∷ more) 0 j g in
+    let shut : byte_at ys n ≡ code ">" = sym (f.at (length w)) ∙ get_or-append_seam w (code ">") more 0 in
     let some = test_stands w 0 starts_name refl name.begins in
     let within = standing ys n (code ">") shut (omega arith) in
     let cut : n - (s + 2) ≡ length w = omega arith in
@@ -71,13 +71,13 @@ ended ys w more s name e =
       tag = record {
         name = (
           record {
-            begins = ap starts_name (sym (ap (byte ys) zero) ∙ at 0 some) ∙ name.begins;
+            begins = ap starts_name (sym (ap (byte_at ys) zero) ∙ at 0 some) ∙ name.begins;
             ends = record {
               late = omega arith;
               within = omega arith;
               all = λ i a b.
                   let k : s + 2 + (i - (s + 2)) ≡ i = omega arith in
-                  ap continues_name (sym (ap (byte ys) k) ∙ at (i - (s + 2)) (omega arith)) ∙ name.all (i - (s + 2)) (omega arith);
+                  ap continues_name (sym (ap (byte_at ys) k) ∙ at (i - (s + 2)) (omega arith)) ∙ name.all (i - (s + 2)) (omega arith);
               stops = λ _. ap continues_name shut;
             };
           },
@@ -115,9 +115,9 @@ last_reads : (ys : List ℕ) (rooted : Bool) (t : ℕ) → drop t ys ≡ cond ro
 last_reads ys true t e = done (found ys t [] true Nothing finishes (sym (ap markup e)) (finish refl refl))
 last_reads ys false t e =
     let f = from_place ys (codes "<a/>") t (sym e) in
-    let one : byte ys (t + 1) ≡ code "a" = sym (f.at 1) in
-    let two : byte ys (t + 2) ≡ code "/" = sym (f.at 2) in
-    let three : byte ys (t + 3) ≡ code ">" = sym (f.at 3) in
+    let one : byte_at ys (t + 1) ≡ code "a" = sym (f.at 1) in
+    let two : byte_at ys (t + 2) ≡ code "/" = sym (f.at 2) in
+    let three : byte_at ys (t + 3) ≡ code ">" = sym (f.at 3) in
     let k : t + 2 + 1 ≡ t + 3 = omega arith in
     let long = standing ys (t + 3) (code ">") three (omega arith) in
     let tag : IsStart ys t (t + 2) (t + 4) true = record {
@@ -127,16 +127,16 @@ last_reads ys false t e =
           ends = record {
             late = omega arith;
             within = omega arith;
-            all = λ i a b. let j : i ≡ t + 1 = omega arith in ap continues_name (ap (byte ys) j ∙ one);
+            all = λ i a b. let j : i ≡ t + 1 = omega arith in ap continues_name (ap (byte_at ys) j ∙ one);
             stops = λ _. ap continues_name two;
           };
         },
         omega arith,
       );
       close = t + 2 + 1;
-      tag = slash_tag ys (t + 2) two (omega arith) (ap (byte ys) k ∙ three);
+      tag = slash_tag ys (t + 2) two (omega arith) (ap (byte_at ys) k ∙ three);
       ends = omega arith;
-      slash = let m : t + 2 + 1 - 1 ≡ t + 2 = omega arith in sym (ap (λ b. b == code "/") (ap (byte ys) m ∙ two));
+      slash = let m : t + 2 + 1 - 1 ≡ t + 2 = omega arith in sym (ap (λ b. b == code "/") (ap (byte_at ys) m ∙ two));
     } in
     let cut : part ys (t + 1) (t + 2) ≡ codes "a" =
     let c : t + 2 - (t + 1) ≡ 1 = omega arith in

@@ -3,7 +3,7 @@ use Rattle.std.specs.Option.{MatchOption, unwrap_or}
 use Rattle.std.proofs.Common.{◌≡◌, ℕ, ◌+◌, ◌<◌, ◌≤◌, Bool, true, false, ◌||◌, ◌==◌, List, length, Some, None, MatchResult, Option, Result, sym, subst, arith}
 use Prim.Native.Char.{code}
 use Rattle.std.proofs.lemmas.Result.{MatchResult-weaker}
-use Rattle.labels.specs.Spelling.{byte, is_white, Longest}
+use Rattle.labels.specs.Spelling.{byte_at, is_white, Longest}
 use Rattle.xml.specs.Bytes.{plain}
 use Rattle.xml.specs.Markup.{TagEnds, EndEnds, TagFault, EndFault}
 use Rattle.xml.specs.Markup.TagFault.{slash_ended, slash_byte, unclosed, opened}
@@ -23,13 +23,13 @@ first_runs ok end p (Some i) h l = let w = h.1 in record { late = h.0; within = 
 
 -- a `>` that is looked for at one place alone
 abbrev pub Closes : List ℕ → ℕ → Result ℕ ScanFault → Type 0
-Closes xs p r = MatchResult r (λ c. (c ≡ p) × (byte xs p ≡ code ">")) (CloseMissing xs p)
+Closes xs p r = MatchResult r (λ c. (c ≡ p) × (byte_at xs p ≡ code ">")) (CloseMissing xs p)
 
 module _ (xs : List ℕ) (n : ℕ) (r : Result ℕ ScanFault) where
-  pub slash_closes : byte xs n ≡ code "/" → Closes xs (n + 1) r → MatchResult r (TagEnds xs n) (Told (TagFault xs n))
+  pub slash_closes : byte_at xs n ≡ code "/" → Closes xs (n + 1) r → MatchResult r (TagEnds xs n) (Told (TagFault xs n))
   slash_closes s h = MatchResult-weaker r h good bad
     where
-      good : (c : ℕ) → (c ≡ n + 1) × (byte xs (n + 1) ≡ code ">") → TagEnds xs n c
+      good : (c : ℕ) → (c ≡ n + 1) × (byte_at xs (n + 1) ≡ code ">") → TagEnds xs n c
       good c (e, b) = subst (TagEnds xs n) (sym e) (slash_tag xs n s (standing xs (n + 1) (code ">") b (omega arith)) b)
 
       bad : (f : ScanFault) → CloseMissing xs (n + 1) f → Told (TagFault xs n) f
@@ -37,22 +37,22 @@ module _ (xs : List ℕ) (n : ℕ) (r : Result ℕ ScanFault) where
       bad (End c) (w, e) = subst (TagFault xs n 31) (sym e) (slash_ended s w)
       bad (LongName c) h = absurd h
 
-  pub bracket_closes : (is_white (byte xs n) || byte xs n == code ">") ≡ true → (p : ℕ) → Longest (λ i. plain (byte xs i)) (length xs) n p →
+  pub bracket_closes : (is_white (byte_at xs n) || byte_at xs n == code ">") ≡ true → (p : ℕ) → Longest (λ i. plain (byte_at xs i)) (length xs) n p →
       Closes xs p r → MatchResult r (TagEnds xs n) (Told (TagFault xs n))
   bracket_closes a p l h = MatchResult-weaker r h good bad
     where
-      good : (c : ℕ) → (c ≡ p) × (byte xs p ≡ code ">") → TagEnds xs n c
+      good : (c : ℕ) → (c ≡ p) × (byte_at xs p ≡ code ">") → TagEnds xs n c
       good c (e, b) = subst (TagEnds xs n) (sym e) (bracket_tag xs n p a l (standing xs p (code ">") b (omega arith)) (λ f. omega arith))
 
       bad : (f : ScanFault) → CloseMissing xs p f → Told (TagFault xs n) f
-      bad (Byte c) (e, w, b) = subst (TagFault xs n 30) (sym e) (opened p a l (no_close (byte xs p) (l.stops w) b))
+      bad (Byte c) (e, w, b) = subst (TagFault xs n 30) (sym e) (opened p a l (no_close (byte_at xs p) (l.stops w) b))
       bad (End c) (w, e) = subst (TagFault xs n 31) (sym e) (unclosed a (run_out _ _ n p l w))
       bad (LongName c) h = absurd h
 
-  pub white_closes : (p : ℕ) → Longest (λ i. is_white (byte xs i)) (length xs) n p → Closes xs p r → MatchResult r (EndEnds xs n) (Told (EndFault xs n))
+  pub white_closes : (p : ℕ) → Longest (λ i. is_white (byte_at xs i)) (length xs) n p → Closes xs p r → MatchResult r (EndEnds xs n) (Told (EndFault xs n))
   white_closes p l h = MatchResult-weaker r h good bad
     where
-      good : (c : ℕ) → (c ≡ p) × (byte xs p ≡ code ">") → EndEnds xs n c
+      good : (c : ℕ) → (c ≡ p) × (byte_at xs p ≡ code ">") → EndEnds xs n c
       good c (e, b) = subst (EndEnds xs n) (sym e) (record { space = l; closes = b })
 
       bad : (f : ScanFault) → CloseMissing xs p f → Told (EndFault xs n) f

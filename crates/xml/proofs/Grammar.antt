@@ -17,7 +17,7 @@ use Rattle.xml.specs.Reading.{depth_limit, Room, Finds, Reads}
 use Rattle.xml.specs.Reading.Found.{finishes, opens, closes}
 use Rattle.xml.specs.Reading.Finds.{finish, text as text_found, comment as comment_found, instruction as instruction_found, start as start_found, end_tag as end_found}
 use Rattle.xml.specs.Reading.Reads.{done, refused, skipped, opened, opened_empty, closed}
-use Rattle.xml.specs.Documents.{Begins, Misc, Production, Derives, DocumentFrom, Document, DoneAsDocument}
+use Rattle.xml.specs.Documents.{StartsAt, Misc, Production, Derives, DocumentFrom, Document, DoneAsDocument}
 use Rattle.xml.specs.Documents.Misc.{nothing as no_misc, space, comment as comment_misc, instruction as instruction_misc}
 use Rattle.xml.specs.Documents.Production.{element, content}
 use Rattle.xml.specs.Documents.Derives.{empty_tag, tags, nothing, text, comment, instruction, child}
@@ -86,7 +86,7 @@ skips_within xs p q names (by_comment b d) = comment_within xs p q d
 skips_within xs p q names (by_instruction b d) = instruction_within xs p q d
 
 pub opens_from : (xs : List ℕ) (p : ℕ) (names : List (List ℕ)) (rooted : Bool) (k : Markup) (n q : ℕ) (e : Bool) →
-    Begins xs p k → Finds xs p names rooted k (opens n q e) → Begins xs p StartTag × Room names rooted × IsStart xs p n q e
+    StartsAt xs p k → Finds xs p names rooted k (opens n q e) → StartsAt xs p StartTag × Room names rooted × IsStart xs p n q e
 opens_from xs p names rooted k n q e b (start_found r i) = (b, r, i)
 
 pub start_within : (xs : List ℕ) (p n q : ℕ) (e : Bool) → IsStart xs p n q e → q ≤ length xs
@@ -96,11 +96,11 @@ pub end_within : (xs : List ℕ) (p n q : ℕ) → IsEnd xs p n q → q ≤ leng
 end_within xs p n q i = let g = i.ends in omega (arith, standing xs i.close (code ">") i.tag.closes (omega arith))
 
 pub closes_from : (xs : List ℕ) (p : ℕ) (w : List ℕ) (names : List (List ℕ)) (rooted : Bool) (k : Markup) (q : ℕ) →
-    Begins xs p k → Finds xs p (w ∷ names) rooted k (closes q) → Begins xs p EndTag × ((n : ℕ) × (part xs (p + 2) n ≡ w) × IsEnd xs p n q)
+    StartsAt xs p k → Finds xs p (w ∷ names) rooted k (closes q) → StartsAt xs p EndTag × ((n : ℕ) × (part xs (p + 2) n ≡ w) × IsEnd xs p n q)
 closes_from xs p w names rooted k q b (end_found {n = n} i d) = (b, (n, i, d))
 
-finish_from : (xs : List ℕ) (p : ℕ) (names : List (List ℕ)) (rooted : Bool) (k : Markup) → Begins xs p k → Finds xs p names rooted k finishes →
-    Begins xs p Nothing × (names ≡ []) × (rooted ≡ true)
+finish_from : (xs : List ℕ) (p : ℕ) (names : List (List ℕ)) (rooted : Bool) (k : Markup) → StartsAt xs p k → Finds xs p names rooted k finishes →
+    StartsAt xs p Nothing × (names ≡ []) × (rooted ≡ true)
 finish_from xs p names rooted k b (finish a r) = (b, a, r)
 
 -- content up to the end tag of each open element, and then Misc
@@ -108,7 +108,7 @@ abbrev Tails : List ℕ → List (List ℕ) → ℕ → List (Event (List ℕ)) 
 Tails xs [] p es = (es ≡ []) × Misc xs p (length xs)
 Tails xs (w ∷ ns) p es =
     (s : ℕ) × (m : ℕ) × (q : ℕ) × (trees : Forest (List ℕ)) × (cs : List (Event (List ℕ))) ×
-    Derives xs content (suc (length ns)) p s trees × Begins xs s EndTag × IsEnd xs s m q ×
+    Derives xs content (suc (length ns)) p s trees × StartsAt xs s EndTag × IsEnd xs s m q ×
     (part xs (s + 2) m ≡ w) × Tails xs ns q cs × (es ≡ events_of trees ++ (Close ∷ cs))
 
 tails_skip : (xs : List ℕ) (p q : ℕ) (names : List (List ℕ)) (es : List (Event (List ℕ))) →
@@ -126,7 +126,7 @@ tails_child xs p q w v ns inside es a (s, m, r, trees, cs, c, g, i, same, on, eq
     (s, m, r, tree v inside trees, cs, child a c, g, i, same, on, ap (λ x. events_of (tree v inside none) ++ x) eq ∙ tree_events v inside trees (Close ∷ cs))
 
 tails_open : (xs : List ℕ) (p n q : ℕ) (names : List (List ℕ)) (es : List (Event (List ℕ))) →
-    Begins xs p StartTag → length names < depth_limit → IsStart xs p n q false → (names ≡ [] → ⊥) →
+    StartsAt xs p StartTag → length names < depth_limit → IsStart xs p n q false → (names ≡ [] → ⊥) →
     Tails xs (part xs (p + 1) n ∷ names) q es → Tails xs names p (Open (part xs (p + 1) n) ∷ es)
 tails_open xs p n q [] es b few i ne t = absurd (ne refl)
 tails_open xs p n q (w ∷ ns) es b few i ne (s, m, r, inside, cs, c, g, j, same, on, eq) =
@@ -135,12 +135,12 @@ tails_open xs p n q (w ∷ ns) es b few i ne (s, m, r, inside, cs, c, g, j, same
     (tails_child xs p r w v ns inside cs (tags few b i c g j same) on)
 
 tails_empty : (xs : List ℕ) (p n q : ℕ) (names : List (List ℕ)) (es : List (Event (List ℕ))) →
-    Begins xs p StartTag → length names < depth_limit → IsStart xs p n q true → (names ≡ [] → ⊥) →
+    StartsAt xs p StartTag → length names < depth_limit → IsStart xs p n q true → (names ≡ [] → ⊥) →
     Tails xs names q es → Tails xs names p (Open (part xs (p + 1) n) ∷ Close ∷ es)
 tails_empty xs p n q [] es b few i ne t = absurd (ne refl)
 tails_empty xs p n q (w ∷ ns) es b few i ne t = tails_child xs p q w (part xs (p + 1) n) ns none es (empty_tag few b i) t
 
-end_tails : (xs : List ℕ) (p : ℕ) (names : List (List ℕ)) → names ≡ [] → Begins xs p Nothing → p ≤ length xs → Tails xs names p []
+end_tails : (xs : List ℕ) (p : ℕ) (names : List (List ℕ)) → names ≡ [] → StartsAt xs p Nothing → p ≤ length xs → Tails xs names p []
 end_tails xs p [] e b h =
     let z = markup_none (drop p xs) b in
     let same : p ≡ length xs = omega (arith, length-drop p xs) in
@@ -188,7 +188,7 @@ told xs p names rooted es end (opened {n = n} {q = q} {es = ds} f d) e nil r h =
     let w = part xs (p + 1) n in
     root_open (subst (λ x. Tails xs (w ∷ x) q ds) nil (tails xs q (w ∷ names) true ds end d e refl (start_within xs p n q false s.2))) s.0 s.2
   where
-    root_open : Tails xs (part xs (p + 1) n ∷ []) q ds → Begins xs p StartTag → IsStart xs p n q false → DocumentWith xs p (Open (part xs (p + 1) n) ∷ ds)
+    root_open : Tails xs (part xs (p + 1) n ∷ []) q ds → StartsAt xs p StartTag → IsStart xs p n q false → DocumentWith xs p (Open (part xs (p + 1) n) ∷ ds)
     root_open (s, m, t, inside, cs, c, g, i, same, on, eq) b j =
         let w = part xs (p + 1) n in
         let all : Open w ∷ ds ≡ events_of (tree w inside none) = ap (λ x. Open w ∷ x) (eq ∙ ap (λ x. events_of inside ++ (Close ∷ x)) on.0) in

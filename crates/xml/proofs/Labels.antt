@@ -4,7 +4,7 @@ use Rattle.std.proofs.lemmas.List.{length-take-le, get_or-take, get_or-drop}
 use Rattle.std.proofs.lemmas.List.Elements.{All-from_get_or, recursion_from_All}
 use Rattle.sources.specs.declared.event.Event.{Event}
 use Rattle.sources.specs.declared.event.Event.TheVariants.{Open, Close}
-use Rattle.labels.specs.Spelling.{byte, part, continues_name, Spelled}
+use Rattle.labels.specs.Spelling.{byte_at, part, continues_name, Spelled}
 use Rattle.labels.specs.Names.{bytes_of}
 use Rattle.labels.specs.NameOf.{name_of}
 use Rattle.labels.proofs.Making.{name_bytes}
@@ -30,8 +30,8 @@ label_back xs p n h =
   where
     small : (i : ℕ) → i < n - p → get_or (part xs p n) i 0 < 256
     small i g =
-        let e : get_or (part xs p n) i 0 ≡ byte xs (p + i) = get_or-take (n - p) (drop p xs) i 0 g ∙ get_or-drop p xs i 0 in
-        let s = continuing_small (byte xs (p + i)) (h.0.ends.all (p + i) (omega arith) (omega arith)) in
+        let e : get_or (part xs p n) i 0 ≡ byte_at xs (p + i) = get_or-take (n - p) (drop p xs) i 0 g ∙ get_or-drop p xs i 0 in
+        let s = continuing_small (byte_at xs (p + i)) (h.0.ends.all (p + i) (omega arith) (omega arith)) in
         omega arith
 
 module _ (xs : List ℕ) where

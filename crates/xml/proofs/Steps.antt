@@ -31,7 +31,7 @@ use Rattle.xml.specs.declared.fault.XmlFault.{XmlFault}
 use Rattle.xml.specs.declared.scan.Opening.{Opening as Start}
 use Rattle.xml.specs.declared.markup.Markup.TheVariants.{StartTag, EndTag}
 use Rattle.xml.specs.Markup.{markup, EndEnds, IsStart}
-use Rattle.xml.specs.Documents.{Begins}
+use Rattle.xml.specs.Documents.{StartsAt}
 use Rattle.xml.specs.Documents.Misc.{nothing as no_misc}
 use Rattle.xml.proofs.Once.{once}
 use Rattle.xml.proofs.Between.{found, passes_misc}
@@ -167,7 +167,7 @@ root_fails xs p q f d g =
     record { none = s.0 ∙ m.0; ends = s.1 ∙ m.1 }
 
 pub root_named : (xs : List ℕ) (p q n r : ℕ) (e : Bool) (w : List ℕ) → w ≡ part xs (q + 1) n → Passes xs false p q →
-    Begins xs q StartTag → IsStart xs q n r e → RootNamed xs p w
+    StartsAt xs q StartTag → IsStart xs q n r e → RootNamed xs p w
 root_named xs p q n r e w c d b i =
     let s = passes_same xs false p q [] false d refl in
     let o = opens_first xs q [] false n r e (found xs q [] false StartTag _ (sym b) (start root_room i)) in

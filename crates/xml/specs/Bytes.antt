@@ -1,7 +1,7 @@
 -- The tests on bytes that only listings have.
 use Rattle.std.specs.Prelude.{◌≡◌, ℕ, ◌+◌, Bool, not, ◌&&◌, ◌||◌, List, [], ◌∷◌, ◌==◌}
 use Prim.Native.Char.{code}
-use Rattle.labels.specs.Spelling.{byte}
+use Rattle.labels.specs.Spelling.{byte_at}
 
 -- neither `<` nor `>`
 abbrev pub plain : ℕ → Bool
@@ -9,9 +9,9 @@ plain b = not (b == code "<" || b == code ">")
 
 -- the bytes a and b do not stand at i and behind it
 abbrev pub apart : List ℕ → ℕ → ℕ → ℕ → Bool
-apart xs a b i = not (byte xs i == a && byte xs (i + 1) == b)
+apart xs a b i = not (byte_at xs i == a && byte_at xs (i + 1) == b)
 
 -- the word stands at the place
 abbrev pub Stands : List ℕ → List ℕ → ℕ → Type 0
 Stands xs [] p = Unit {0}
-Stands xs (b ∷ bs) p = (byte xs p ≡ b) × Stands xs bs (p + 1)
+Stands xs (b ∷ bs) p = (byte_at xs p ≡ b) × Stands xs bs (p + 1)

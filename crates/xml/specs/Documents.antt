@@ -9,7 +9,7 @@ use Rattle.sources.specs.declared.event.Event.{Event}
 use Rattle.sources.specs.Forest.{Forest, events_of, nodes_of, post_order}
 use Rattle.sources.specs.Forest.Forest.{none, tree}
 use Rattle.sources.specs.Nodes.{nodes, closing_order}
-use Rattle.labels.specs.Spelling.{byte, part, is_white}
+use Rattle.labels.specs.Spelling.{byte_at, part, is_white}
 use Rattle.xml.specs.Markup.{markup, IsComment, IsInstruction, IsStart, IsEnd}
 use Rattle.xml.specs.Reading.{depth_limit}
 use Rattle.xml.specs.declared.markup.Markup.{Markup}
@@ -17,15 +17,15 @@ use Rattle.xml.specs.declared.markup.Markup.TheVariants.{Text, EndTag, Comment, 
 use Rattle.xml.specs.declared.fault.XmlFault.{XmlFault}
 
 -- the markup that the bytes from p on begin
-abbrev pub Begins : List ℕ → ℕ → Markup → Type 0
-Begins xs p k = markup (drop p xs) ≡ k
+abbrev pub StartsAt : List ℕ → ℕ → Markup → Type 0
+StartsAt xs p k = markup (drop p xs) ≡ k
 
 -- any number of Misc from p to q
 pub data Misc (xs : List ℕ) : ℕ → ℕ → Type 0 where
   nothing : {p : ℕ} → Misc xs p p
-  space : {p q : ℕ} → Begins xs p Text → is_white (byte xs p) ≡ true → Misc xs (p + 1) q → Misc xs p q
-  comment : {p r q : ℕ} → Begins xs p Comment → IsComment xs p r → Misc xs r q → Misc xs p q
-  instruction : {p r q : ℕ} → Begins xs p Instruction → IsInstruction xs p r → Misc xs r q → Misc xs p q
+  space : {p q : ℕ} → StartsAt xs p Text → is_white (byte_at xs p) ≡ true → Misc xs (p + 1) q → Misc xs p q
+  comment : {p r q : ℕ} → StartsAt xs p Comment → IsComment xs p r → Misc xs r q → Misc xs p q
+  instruction : {p r q : ℕ} → StartsAt xs p Instruction → IsInstruction xs p r → Misc xs r q → Misc xs p q
 
 -- the productions that contain each other
 pub data Production : Type 0 where
@@ -34,16 +34,16 @@ pub data Production : Type 0 where
 
 -- An element, or content, stands from p to q with k elements open around it. Its trees have the names of the elements for labels.
 pub data Derives (xs : List ℕ) : Production → ℕ → ℕ → ℕ → Forest (List ℕ) → Type 0 where
-  empty_tag : {k p n q : ℕ} → k < depth_limit → Begins xs p StartTag → IsStart xs p n q true → Derives xs element k p q (tree (part xs (p + 1) n) none none)
+  empty_tag : {k p n q : ℕ} → k < depth_limit → StartsAt xs p StartTag → IsStart xs p n q true → Derives xs element k p q (tree (part xs (p + 1) n) none none)
   tags : {k p n r s m q : ℕ} {inside : Forest (List ℕ)} →
-      k < depth_limit → Begins xs p StartTag → IsStart xs p n r false →
+      k < depth_limit → StartsAt xs p StartTag → IsStart xs p n r false →
       Derives xs content (suc k) r s inside →
-      Begins xs s EndTag → IsEnd xs s m q → part xs (s + 2) m ≡ part xs (p + 1) n →
+      StartsAt xs s EndTag → IsEnd xs s m q → part xs (s + 2) m ≡ part xs (p + 1) n →
       Derives xs element k p q (tree (part xs (p + 1) n) inside none)
   nothing : {k p : ℕ} → Derives xs content k p p none
-  text : {k p q : ℕ} {trees : Forest (List ℕ)} → Begins xs p Text → Derives xs content k (p + 1) q trees → Derives xs content k p q trees
-  comment : {k p r q : ℕ} {trees : Forest (List ℕ)} → Begins xs p Comment → IsComment xs p r → Derives xs content k r q trees → Derives xs content k p q trees
-  instruction : {k p r q : ℕ} {trees : Forest (List ℕ)} → Begins xs p Instruction → IsInstruction xs p r →
+  text : {k p q : ℕ} {trees : Forest (List ℕ)} → StartsAt xs p Text → Derives xs content k (p + 1) q trees → Derives xs content k p q trees
+  comment : {k p r q : ℕ} {trees : Forest (List ℕ)} → StartsAt xs p Comment → IsComment xs p r → Derives xs content k r q trees → Derives xs content k p q trees
+  instruction : {k p r q : ℕ} {trees : Forest (List ℕ)} → StartsAt xs p Instruction → IsInstruction xs p r →
       Derives xs content k r q trees → Derives xs content k p q trees
   child : {k p r q : ℕ} {w : List ℕ} {inside behind : Forest (List ℕ)} →
       Derives xs element k p r (tree w inside none) → Derives xs content k r q behind → Derives xs content k p q (tree w inside behind)

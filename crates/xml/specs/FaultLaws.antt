@@ -2,7 +2,7 @@
 use Rattle.std.specs.Prelude.{◌≡◌, ℕ, ◌+◌, ◌<◌, ◌≤◌, Bool, true, false, List, [], length, ◌≢◌, refl}
 use Rattle.std.proofs.Common.{ap, subst, arith}
 use Rattle.std.proofs.lemmas.Bool.{both_ways}
-use Rattle.labels.specs.Spelling.{byte, part, is_white, starts_name, Named, Spelled}
+use Rattle.labels.specs.Spelling.{byte_at, part, is_white, starts_name, Named, Spelled}
 use Rattle.xml.specs.Markup.{NameFault, CommentFault, InstructionFault, TagFault, EndFault}
 use Rattle.xml.specs.Markup.NameFault.{ended as name_ended, no_start, long}
 use Rattle.xml.specs.Reading.{depth_limit, Room, Innermost, Wrong, ComesBefore, Finds}
@@ -64,7 +64,7 @@ module _ {xs : List ℕ} {p : ℕ} {names : List (List ℕ)} {rooted : Bool} whe
       least : (j to : ℕ) → Wrong xs p names rooted Nothing j to → ComesBefore 31 (length xs) j to
       least j to (unfinished g) = same
 
-  pub no_text : names ≡ [] → is_white (byte xs p) ≡ false → Finds xs p names rooted Text (refuses 30 p)
+  pub no_text : names ≡ [] → is_white (byte_at xs p) ≡ false → Finds xs p names rooted Text (refuses 30 p)
   no_text e h = faulty (bare_text e h) least
     where
       least : (j to : ℕ) → Wrong xs p names rooted Text j to → ComesBefore 30 p j to

@@ -1,7 +1,7 @@
 -- What the private functions say.
 use Rattle.std.specs.Prelude.{◌≡◌, ℕ, ◌+◌, ◌-◌, ◌<◌, ◌≤◌, Bool, true, false, List, [], ◌∷◌, ◌++◌, map, length, drop, Some, None, Option, ◌==◌, ◌≢◌}
 use Prim.Native.Char.{code}
-use Rattle.labels.specs.Spelling.{byte, part, Spelled}
+use Rattle.labels.specs.Spelling.{byte_at, part, Spelled}
 use Rattle.labels.specs.declared.name.Name.{Name}
 use Rattle.sources.specs.declared.event.Event.{Event}
 use Rattle.sources.specs.declared.event.Event.TheVariants.{Open, Close}
@@ -31,11 +31,11 @@ Told D f = D (scan_number f) (scan_place f)
 
 -- the `>` stands at p
 abbrev pub ClosesAt : List ℕ → ℕ → ℕ → Type 0
-ClosesAt xs p c = (c ≡ p) × (byte xs p ≡ code ">")
+ClosesAt xs p c = (c ≡ p) × (byte_at xs p ≡ code ">")
 
 -- no `>` stands at p
 abbrev pub CloseMissing : List ℕ → ℕ → ScanFault → Type 0
-CloseMissing xs p (Byte c) = (c ≡ p) × (p < length xs) × (byte xs p ≢ code ">")
+CloseMissing xs p (Byte c) = (c ≡ p) × (p < length xs) × (byte_at xs p ≢ code ">")
 CloseMissing xs p (End c) = (length xs ≤ p) × (c ≡ length xs)
 CloseMissing xs p (LongName c) = ⊥
 
@@ -52,7 +52,7 @@ pub record Tagged (xs : List ℕ) (b : ℕ) (t : Opening) : Type 0 where
   pub name : t.name.now ≡ part xs b stop
   pub rest : TagEnds xs stop close
   pub ends : t.end ≡ close + 1
-  pub slash : t.empty ≡ (byte xs (close - 1) == code "/")
+  pub slash : t.empty ≡ (byte_at xs (close - 1) == code "/")
 
 -- Between tags: whether an element is open
 abbrev pub some : List (List ℕ) → Bool

@@ -8,7 +8,7 @@ use Rattle.labels.specs.declared.name.Name.{Name}
 use Rattle.sources.specs.declared.event.Event.{Event}
 use Rattle.sources.specs.declared.event.Event.TheVariants.{Open, Close}
 use Rattle.xml.specs.Reading.{Meaning}
-use Rattle.xml.specs.Documents.{Begins, Misc}
+use Rattle.xml.specs.Documents.{StartsAt, Misc}
 use Rattle.xml.specs.Total.{reading}
 use Rattle.xml.specs.declared.markup.Markup.TheVariants.{StartTag}
 use Rattle.xml.specs.declared.fault.XmlFault.{XmlFault}
@@ -70,7 +70,7 @@ begun_by before (Err f) = before
 pub record NamesRoot (xs : List ℕ) (p : ℕ) (es : List (Event (List ℕ))) (w : List ℕ) : Type 0 where
   pub at : ℕ
   pub before : Misc xs p at
-  pub begins : Begins xs at StartTag
+  pub begins : StartsAt xs at StartTag
   pub stop : ℕ
   pub name : Spelled xs (at + 1) stop
   pub cut : w ≡ part xs (at + 1) stop

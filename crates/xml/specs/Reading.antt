@@ -2,7 +2,7 @@
 use Rattle.std.specs.Prelude.{◌≡◌, ℕ, ◌+◌, ◌<◌, ◌≤◌, Bool, true, false, List, [], ◌∷◌, length, drop, Some, None, Option, ◌≢◌}
 use Rattle.sources.specs.declared.event.Event.{Event}
 use Rattle.sources.specs.declared.event.Event.TheVariants.{Open, Close}
-use Rattle.labels.specs.Spelling.{byte, part, is_white, Named}
+use Rattle.labels.specs.Spelling.{byte_at, part, is_white, Named}
 use Rattle.xml.specs.Faults.{number, place}
 use Rattle.xml.specs.Markup.{markup, IsComment, IsInstruction, IsStart, IsEnd, NameFault, CommentFault, InstructionFault, TagFault, EndFault}
 use Rattle.xml.specs.declared.markup.Markup.{Markup}
@@ -27,7 +27,7 @@ Innermost (n ∷ ns) w = w ≡ n
 -- open elements, innermost first, and whether a root was there
 pub data Wrong (xs : List ℕ) (p : ℕ) (names : List (List ℕ)) (rooted : Bool) : Markup → ℕ → ℕ → Type 0 where
   unfinished : (names ≡ [] → rooted ≢ true) → Wrong xs p names rooted Nothing 31 (length xs)
-  bare_text : names ≡ [] → is_white (byte xs p) ≡ false → Wrong xs p names rooted Text 30 p
+  bare_text : names ≡ [] → is_white (byte_at xs p) ≡ false → Wrong xs p names rooted Text 30 p
   bad_comment : {k at : ℕ} → CommentFault xs (p + 4) k at → Wrong xs p names rooted Comment k at
   bad_instruction : {k at : ℕ} → InstructionFault xs (p + 2) k at → Wrong xs p names rooted Instruction k at
   no_comment : Wrong xs p names rooted Declaration 34 p
@@ -58,7 +58,7 @@ pub data Found : Type 0 where
 -- by the markup, the names and the root as above; a fault is found if it comes before all that is wrong there
 pub data Finds (xs : List ℕ) (p : ℕ) (names : List (List ℕ)) (rooted : Bool) : Markup → Found → Type 0 where
   finish : names ≡ [] → rooted ≡ true → Finds xs p names rooted Nothing finishes
-  text : (names ≡ [] → is_white (byte xs p) ≡ true) → Finds xs p names rooted Text (skips (p + 1))
+  text : (names ≡ [] → is_white (byte_at xs p) ≡ true) → Finds xs p names rooted Text (skips (p + 1))
   comment : {q : ℕ} → IsComment xs p q → Finds xs p names rooted Comment (skips q)
   instruction : {q : ℕ} → IsInstruction xs p q → Finds xs p names rooted Instruction (skips q)
   start : {n q : ℕ} {empty : Bool} → Room names rooted → IsStart xs p n q empty → Finds xs p names rooted StartTag (opens n q empty)

@@ -4,7 +4,7 @@ use Rattle.std.proofs.Common.{ltb, sym, ap, ◌∙◌, subst, inl, inr, arith}
 use Prim.Native.Char.{code}
 use Rattle.std.proofs.lemmas.List.{get_or_past}
 use Rattle.std.proofs.lemmas.Bool.{cases_lt, cases_order, cases_Bool, ne_eqb, eq-eqb, lt-ltb, le-ltb, or_left, or_parts, or_from, both_ways}
-use Rattle.labels.specs.Spelling.{byte, is_white, starts_name, continues_name, Longest, Named, Spelled}
+use Rattle.labels.specs.Spelling.{byte_at, is_white, starts_name, continues_name, Longest, Named, Spelled}
 use Rattle.xml.specs.Bytes.{plain}
 use Rattle.xml.specs.Markup.{TagEnds, EndEnds, IsComment, IsInstruction, IsStart, IsEnd, NameFault, CommentFault, InstructionFault, TagFault, EndFault}
 use Rattle.xml.specs.Markup.NameFault.{ended as name_ended, no_start, long}
@@ -45,14 +45,14 @@ pub run_out : (ok : ℕ → Bool) (end p q : ℕ) → Longest ok end p q → end
 run_out ok end p q l h = let w = l.within in let e : q ≡ end = omega arith in subst (Longest ok end p) e l
 
 -- a byte that is not 0 stands within
-pub standing : (xs : List ℕ) (i b : ℕ) → byte xs i ≡ b → 0 < b → i < length xs
+pub standing : (xs : List ℕ) (i b : ℕ) → byte_at xs i ≡ b → 0 < b → i < length xs
 standing xs i b e h = go (cases_lt i (length xs))
   where
     go : ((i < length xs) ⊎ (length xs ≤ i)) → i < length xs
     go (inl l) = l
     go (inr l) = let z = get_or_past xs i 0 l in absurd (omega arith)
 
-pub test_stands : (xs : List ℕ) (i : ℕ) (t : ℕ → Bool) → t 0 ≡ false → t (byte xs i) ≡ true → i < length xs
+pub test_stands : (xs : List ℕ) (i : ℕ) (t : ℕ → Bool) → t 0 ≡ false → t (byte_at xs i) ≡ true → i < length xs
 test_stands xs i t n e = go (cases_lt i (length xs))
   where
     go : ((i < length xs) ⊎ (length xs ≤ i)) → i < length xs
@@ -73,7 +73,7 @@ module _ (xs : List ℕ) where
           let late = d.ends.late in
           let e : q ≡ p = omega arith in
           let l = test_stands xs p starts_name refl d.begins in
-          let fails = subst (λ i. continues_name (byte xs i) ≡ false) e (d.ends.stops (omega arith)) in
+          let fails = subst (λ i. continues_name (byte_at xs i) ≡ false) e (d.ends.stops (omega arith)) in
           absurd (both_ways _ fails (or_left _ _ d.begins))
 
   pub name_apart : (p n k at : ℕ) → Spelled xs p n → NameFault xs p k at → ⊥
@@ -106,7 +106,7 @@ module _ (xs : List ℕ) where
   comment_apart p q k at a (comment_byte d l h n) =
       let e = longest_same _ _ (p + 4) a.dashes d a.first l in
       let s : a.dashes + 1 + 1 ≡ d + 2 = omega arith in
-      n (sym (ap (byte xs) s) ∙ a.closes.1.1.0)
+      n (sym (ap (byte_at xs) s) ∙ a.closes.1.1.0)
 
   pub comment_fault_same : (p k at j to : ℕ) → CommentFault xs (p + 4) k at → CommentFault xs (p + 4) j to → refuses k at ≡ refuses j to
   comment_fault_same p k at j to (comment_ended d l h) (comment_ended c m g) = refl
@@ -137,7 +137,7 @@ module _ (xs : List ℕ) where
       let e = longest_same _ _ n q (length xs) a.space l in
       let s = standing xs q (code ">") a.closes (omega arith) in
       omega arith
-  end_apart n q k at a (end_byte c l h ne) = let e = longest_same _ _ n q c a.space l in ne (sym (ap (byte xs) e) ∙ a.closes)
+  end_apart n q k at a (end_byte c l h ne) = let e = longest_same _ _ n q c a.space l in ne (sym (ap (byte_at xs) e) ∙ a.closes)
 
   pub end_fault_same : (n k at j to : ℕ) → EndFault xs n k at → EndFault xs n j to → refuses k at ≡ refuses j to
   end_fault_same n k at j to (end_ended l) (end_ended m) = refl
@@ -160,13 +160,13 @@ module _ (xs : List ℕ) where
       let e = a.slash s in
       let l = standing xs q (code ">") a.closes (omega arith) in
       omega arith
-  tag_apart n q k at a (slash_byte s h ne) = ne (sym (ap (byte xs) (a.slash s)) ∙ a.closes)
+  tag_apart n q k at a (slash_byte s h ne) = ne (sym (ap (byte_at xs) (a.slash s)) ∙ a.closes)
   tag_apart n q k at a (unclosed b l) =
       let e = longest_same _ _ n q (length xs) a.rest l in
       let s = standing xs q (code ">") a.closes (omega arith) in
       omega arith
   tag_apart n q k at a (bracket_opened c b l f) =
-      let e = ap (byte xs) (longest_same _ _ n q c a.rest l) in
+      let e = ap (byte_at xs) (longest_same _ _ n q c a.rest l) in
       let g = a.closes in
       omega arith
 
@@ -177,37 +177,37 @@ module _ (xs : List ℕ) where
   abbrev tag_code : ℕ → ℕ → Found
   tag_code n c =
       cond (ltb n (length xs))
-      (cond (byte xs n == code "/") (cond (ltb (n + 1) (length xs)) (refuses 30 (n + 1)) (refuses 31 (length xs)))
-      (cond (is_white (byte xs n) || byte xs n == code ">") (cond (ltb c (length xs)) (refuses 30 c) (refuses 31 (length xs))) (refuses 30 n)))
+      (cond (byte_at xs n == code "/") (cond (ltb (n + 1) (length xs)) (refuses 30 (n + 1)) (refuses 31 (length xs)))
+      (cond (is_white (byte_at xs n) || byte_at xs n == code ">") (cond (ltb c (length xs)) (refuses 30 c) (refuses 31 (length xs))) (refuses 30 n)))
       (refuses 31 (length xs))
 
-  tag_coded : (n c k at : ℕ) → Longest (λ i. plain (byte xs i)) (length xs) n c → TagFault xs n k at → refuses k at ≡ tag_code n c
+  tag_coded : (n c k at : ℕ) → Longest (λ i. plain (byte_at xs i)) (length xs) n c → TagFault xs n k at → refuses k at ≡ tag_code n c
   tag_coded n c k at m (tag_ended h) = rw (le-ltb n (length xs) h)
   tag_coded n c k at m (tag_byte h e) =
-      let o = or_parts (is_white (byte xs n)) (byte xs n == code "/" || byte xs n == code ">") e in
-      let u = or_parts (byte xs n == code "/") (byte xs n == code ">") o.1 in
+      let o = or_parts (is_white (byte_at xs n)) (byte_at xs n == code "/" || byte_at xs n == code ">") e in
+      let u = or_parts (byte_at xs n == code "/") (byte_at xs n == code ">") o.1 in
       rw (lt-ltb n (length xs) h, u.0, or_from _ _ o.0 u.1)
   tag_coded n c k at m (slash_ended s h) =
       let l = standing xs n (code "/") s (omega arith) in
-      rw (lt-ltb n (length xs) l, eq-eqb (byte xs n) (code "/") s, le-ltb (n + 1) (length xs) h)
+      rw (lt-ltb n (length xs) l, eq-eqb (byte_at xs n) (code "/") s, le-ltb (n + 1) (length xs) h)
   tag_coded n c k at m (slash_byte s h ne) =
       let l : n < length xs = omega arith in
-      rw (lt-ltb n (length xs) l, eq-eqb (byte xs n) (code "/") s, lt-ltb (n + 1) (length xs) h)
+      rw (lt-ltb n (length xs) l, eq-eqb (byte_at xs n) (code "/") s, lt-ltb (n + 1) (length xs) h)
   tag_coded n c k at m (unclosed b l) =
       let w = test_stands xs n (λ b. is_white b || b == code ">") refl b in
       let e = longest_same _ _ n c (length xs) m l in
       let f : length xs ≤ c = omega arith in
-      rw (lt-ltb n (length xs) w, not_slash (byte xs n) b, b, le-ltb c (length xs) f)
+      rw (lt-ltb n (length xs) w, not_slash (byte_at xs n) b, b, le-ltb c (length xs) f)
   tag_coded n c k at m (bracket_opened d b l f) =
       let w = test_stands xs n (λ b. is_white b || b == code ">") refl b in
       let e = longest_same _ _ n c d m l in
       let g = standing xs d (code "<") f (omega arith) in
       let in_it : c < length xs = omega arith in
-      rw (lt-ltb n (length xs) w, not_slash (byte xs n) b, b, lt-ltb c (length xs) in_it) (ap (refuses 30) (sym e))
+      rw (lt-ltb n (length xs) w, not_slash (byte_at xs n) b, b, lt-ltb c (length xs) in_it) (ap (refuses 30) (sym e))
 
   pub tag_fault_same : (n k at j to : ℕ) → n ≤ length xs → TagFault xs n k at → TagFault xs n j to → refuses k at ≡ refuses j to
   tag_fault_same n k at j to h a b =
-      let l = longest (λ i. plain (byte xs i)) (length xs) n h in
+      let l = longest (λ i. plain (byte_at xs i)) (length xs) n h in
       tag_coded n l.0 k at l.1 a ∙ sym (tag_coded n l.0 j to l.1 b)
 
   -- nor is this one
@@ -226,7 +226,7 @@ module _ (xs : List ℕ) where
       let ends = a.ends in
       let ends₁ = b.ends in
       let same_q : q ≡ r = omega arith in
-      let same_e : e ≡ f = a.slash ∙ ap (λ x. byte xs (x - 1) == code "/") c ∙ sym b.slash in
+      let same_e : e ≡ f = a.slash ∙ ap (λ x. byte_at xs (x - 1) == code "/") c ∙ sym b.slash in
       λ i. opens (g i) (same_q i) (same_e i)
 
   pub close_same : (p n q m r : ℕ) → IsEnd xs p n q → IsEnd xs p m r → q ≡ r

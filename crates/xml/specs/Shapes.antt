@@ -4,7 +4,7 @@ use Rattle.std.proofs.Common.{sym, ◌∙◌, ap, subst, inl, inr, add-zero, ari
 use Prim.Native.Char.{code}
 use Rattle.std.proofs.lemmas.List.{get_or-drop}
 use Rattle.std.proofs.lemmas.Bool.{cases_lt, and_parts, not-false, eqb-true, or_cases, both_ways}
-use Rattle.labels.specs.Spelling.{byte, is_white, starts_name, Longest}
+use Rattle.labels.specs.Spelling.{byte_at, is_white, starts_name, Longest}
 use Rattle.xml.specs.Bytes.{plain, apart}
 use Rattle.xml.specs.Markup.{markup, behind, two_dashes, TagEnds}
 use Rattle.xml.specs.declared.markup.Markup.{Markup}
@@ -13,13 +13,13 @@ use Rattle.xml.specs.declared.markup.Markup.TheVariants.{Nothing, Text, EndTag, 
 -- the bytes from a place on, by the place
 pub record From (xs : List ℕ) (d : ℕ) (bs : List ℕ) : Type 0 where
   pub long : length bs ≡ length xs - d
-  pub first : slice_index bs 0 ≡ byte xs d
-  pub at : (k : ℕ) → slice_index bs k ≡ byte xs (d + k)
+  pub first : slice_index bs 0 ≡ byte_at xs d
+  pub at : (k : ℕ) → slice_index bs k ≡ byte_at xs (d + k)
 
 pub from_place : (xs bs : List ℕ) (d : ℕ) → bs ≡ drop d xs → From xs d bs
 from_place xs bs d e =
-    let at : (k : ℕ) → slice_index bs k ≡ byte xs (d + k) = λ k. ap (λ l. slice_index l k) e ∙ get_or-drop d xs k 0 in
-    record { long = ap length e ∙ length-drop d xs; first = at 0 ∙ ap (byte xs) (add-zero d); at = at }
+    let at : (k : ℕ) → slice_index bs k ≡ byte_at xs (d + k) = λ k. ap (λ l. slice_index l k) e ∙ get_or-drop d xs k 0 in
+    record { long = ap length e ∙ length-drop d xs; first = at 0 ∙ ap (byte_at xs) (add-zero d); at = at }
 
 -- how long the markup is at least, by what begins
 dashes_long : (bs : List ℕ) → two_dashes bs ≡ true → 2 ≤ length bs
@@ -81,9 +81,9 @@ pub comment_long : (xs : List ℕ) (p : ℕ) → markup (drop p xs) ≡ Comment 
 comment_long xs p e = reaches xs p Comment e (omega arith)
 
 -- where the two bytes stand
-pub pair_here : (xs : List ℕ) (a b i : ℕ) → apart xs a b i ≡ false → (byte xs i ≡ a) × (byte xs (i + 1) ≡ b)
+pub pair_here : (xs : List ℕ) (a b i : ℕ) → apart xs a b i ≡ false → (byte_at xs i ≡ a) × (byte_at xs (i + 1) ≡ b)
 pair_here xs a b i e =
-    let h = and_parts (byte xs i == a) (byte xs (i + 1) == b) (not-false _ e) in
+    let h = and_parts (byte_at xs i == a) (byte_at xs (i + 1) == b) (not-false _ e) in
     (eqb-true _ _ h.0, eqb-true _ _ h.1)
 
 -- one more place that passes
@@ -95,14 +95,14 @@ one_more ok p q h e i a b = go (cases_lt i q)
     go (inr l) = let s : q ≡ i = omega arith in subst (λ j. ok j ≡ true) s e
 
 -- the rest of a start tag: `/>` right after the name
-pub slash_tag : (xs : List ℕ) (n : ℕ) → byte xs n ≡ code "/" → n + 1 < length xs → byte xs (n + 1) ≡ code ">" → TagEnds xs n (n + 1)
+pub slash_tag : (xs : List ℕ) (n : ℕ) → byte_at xs n ≡ code "/" → n + 1 < length xs → byte_at xs (n + 1) ≡ code ">" → TagEnds xs n (n + 1)
 slash_tag xs n e h f =
-    let at_n : plain (byte xs n) ≡ true = ap plain e in
-    let here : (i : ℕ) → n ≤ i → i < n → plain (byte xs i) ≡ true = λ i a b. absurd (omega arith) in
+    let at_n : plain (byte_at xs n) ≡ true = ap plain e in
+    let here : (i : ℕ) → n ≤ i → i < n → plain (byte_at xs i) ≡ true = λ i a b. absurd (omega arith) in
     record {
       after = ap (λ b. is_white b || (b == code "/" || b == code ">")) e;
       slash = λ _. refl;
-      rest = record { late = omega arith; within = omega arith; all = one_more (λ i. plain (byte xs i)) n n here at_n; stops = λ _. ap plain f };
+      rest = record { late = omega arith; within = omega arith; all = one_more (λ i. plain (byte_at xs i)) n n here at_n; stops = λ _. ap plain f };
       closes = f;
     }
 
@@ -129,8 +129,8 @@ no_close b h n = go (or_cases (b == code "<") (b == code ">") (not-false _ h))
     go (inl e) = eqb-true b (code "<") e
     go (inr e) = absurd (n (eqb-true b (code ">") e))
 
-pub bracket_tag : (xs : List ℕ) (n c : ℕ) → (is_white (byte xs n) || byte xs n == code ">") ≡ true → Longest (λ i. plain (byte xs i)) (length xs) n c →
-    c < length xs → (byte xs c ≢ code "<") → TagEnds xs n c
+pub bracket_tag : (xs : List ℕ) (n c : ℕ) → (is_white (byte_at xs n) || byte_at xs n == code ">") ≡ true → Longest (λ i. plain (byte_at xs i)) (length xs) n c →
+    c < length xs → (byte_at xs c ≢ code "<") → TagEnds xs n c
 bracket_tag xs n c h l w ne =
-    let s = no_slash (byte xs n) h in
-    record { after = s.0; slash = λ e. absurd (s.1 e); rest = l; closes = not_plain (byte xs c) (l.stops w) ne }
+    let s = no_slash (byte_at xs n) h in
+    record { after = s.0; slash = λ e. absurd (s.1 e); rest = l; closes = not_plain (byte_at xs c) (l.stops w) ne }

@@ -7,7 +7,7 @@ use Rattle.std.proofs.lemmas.Bool.{cases_lt, cases_eq, cases_Bool, ne_eqb, or_pa
 use Rattle.std.proofs.lemmas.Slice.Eq.{bytes_eq-Decides}
 use Rattle.std.specs.Str.{bytes_eq}
 use Rattle.sources.specs.declared.event.Event.TheVariants.{Open, Close}
-use Rattle.labels.specs.Spelling.{byte, part, is_white, starts_name, continues_name, Longest, name_limit, Spelled}
+use Rattle.labels.specs.Spelling.{byte_at, part, is_white, starts_name, continues_name, Longest, name_limit, Spelled}
 use Rattle.xml.specs.Bytes.{plain, apart}
 use Rattle.xml.specs.Shapes.{slash_tag, bracket_tag, pair_here, reaches}
 use Rattle.xml.specs.Faults.{number, place}
@@ -38,33 +38,33 @@ module _ (xs : List ℕ) where
   some_name : (p : ℕ) → Outcome (Spelled xs p) (NameFault xs p)
   some_name p = go (cases_lt p (length xs))
     where
-      by_length : starts_name (byte xs p) ≡ true → (q : ℕ) → Longest (λ i. continues_name (byte xs i)) (length xs) p q →
+      by_length : starts_name (byte_at xs p) ≡ true → (q : ℕ) → Longest (λ i. continues_name (byte_at xs i)) (length xs) p q →
           ((p + name_limit < q) ⊎ (q ≤ p + name_limit)) → Outcome (Spelled xs p) (NameFault xs p)
       by_length s q l (inl h) = bad (Scan (LongName p)) (long q (record { begins = s; ends = l }) h)
       by_length s q l (inr h) = good q (record { begins = s; ends = l }, h)
 
-      first : p < length xs → ((starts_name (byte xs p) ≡ true) ⊎ (starts_name (byte xs p) ≡ false)) → Outcome (Spelled xs p) (NameFault xs p)
-      first h (inl s) = let l = longest (λ i. continues_name (byte xs i)) (length xs) p (omega arith) in by_length s l.0 l.1 (cases_lt (p + name_limit) l.0)
+      first : p < length xs → ((starts_name (byte_at xs p) ≡ true) ⊎ (starts_name (byte_at xs p) ≡ false)) → Outcome (Spelled xs p) (NameFault xs p)
+      first h (inl s) = let l = longest (λ i. continues_name (byte_at xs i)) (length xs) p (omega arith) in by_length s l.0 l.1 (cases_lt (p + name_limit) l.0)
       first h (inr s) = bad (Scan (Byte p)) (no_start h s)
 
       go : ((p < length xs) ⊎ (length xs ≤ p)) → Outcome (Spelled xs p) (NameFault xs p)
-      go (inl h) = first h (cases_Bool (starts_name (byte xs p)))
+      go (inl h) = first h (cases_Bool (starts_name (byte_at xs p)))
       go (inr h) = bad (Scan (End (length xs))) (name_ended h)
 
   some_comment : (p : ℕ) → p + 4 ≤ length xs → Outcome (IsComment xs p) (CommentFault xs (p + 4))
   some_comment p h = go (longest (apart xs (code "-") (code "-")) (length xs) (p + 4) h)
     where
       behind_it : (d : ℕ) → Longest (apart xs (code "-") (code "-")) (length xs) (p + 4) d → d + 2 < length xs →
-          ((byte xs (d + 2) ≡ code ">") ⊎ (byte xs (d + 2) ≢ code ">")) → Outcome (IsComment xs p) (CommentFault xs (p + 4))
+          ((byte_at xs (d + 2) ≡ code ">") ⊎ (byte_at xs (d + 2) ≢ code ">")) → Outcome (IsComment xs p) (CommentFault xs (p + 4))
       behind_it d l w (inl e) =
           let b = pair_here xs (code "-") (code "-") d (l.stops (omega arith)) in
           let s : d + 1 + 1 ≡ d + 2 = omega arith in
-          good (d + 3) (record { dashes = d; first = l; closes = (b.0, (b.1, (ap (byte xs) s ∙ e, tt))); ends = refl })
+          good (d + 3) (record { dashes = d; first = l; closes = (b.0, (b.1, (ap (byte_at xs) s ∙ e, tt))); ends = refl })
       behind_it d l w (inr ne) = bad (Scan (Byte (d + 2))) (comment_byte d l w ne)
 
       fits : (d : ℕ) → Longest (apart xs (code "-") (code "-")) (length xs) (p + 4) d → ((d + 2 < length xs) ⊎ (length xs ≤ d + 2)) →
           Outcome (IsComment xs p) (CommentFault xs (p + 4))
-      fits d l (inl w) = behind_it d l w (cases_eq (byte xs (d + 2)) (code ">"))
+      fits d l (inl w) = behind_it d l w (cases_eq (byte_at xs (d + 2)) (code ">"))
       fits d l (inr w) = bad (Scan (End (length xs))) (comment_ended d l w)
 
       go : ((d : ℕ) × Longest (apart xs (code "-") (code "-")) (length xs) (p + 4) d) → Outcome (IsComment xs p) (CommentFault xs (p + 4))
@@ -84,60 +84,60 @@ module _ (xs : List ℕ) where
       go (d, l) = fits d l (cases_lt d (length xs))
 
   some_end : (n : ℕ) → n ≤ length xs → Outcome (EndEnds xs n) (EndFault xs n)
-  some_end n h = go (longest (λ i. is_white (byte xs i)) (length xs) n h)
+  some_end n h = go (longest (λ i. is_white (byte_at xs i)) (length xs) n h)
     where
-      behind_it : (c : ℕ) → Longest (λ i. is_white (byte xs i)) (length xs) n c → c < length xs →
-          ((byte xs c ≡ code ">") ⊎ (byte xs c ≢ code ">")) → Outcome (EndEnds xs n) (EndFault xs n)
+      behind_it : (c : ℕ) → Longest (λ i. is_white (byte_at xs i)) (length xs) n c → c < length xs →
+          ((byte_at xs c ≡ code ">") ⊎ (byte_at xs c ≢ code ">")) → Outcome (EndEnds xs n) (EndFault xs n)
       behind_it c l w (inl e) = good c (record { space = l; closes = e })
       behind_it c l w (inr ne) = bad (Scan (Byte c)) (end_byte c l w ne)
 
-      fits : (c : ℕ) → Longest (λ i. is_white (byte xs i)) (length xs) n c → ((c < length xs) ⊎ (length xs ≤ c)) → Outcome (EndEnds xs n) (EndFault xs n)
-      fits c l (inl w) = behind_it c l w (cases_eq (byte xs c) (code ">"))
+      fits : (c : ℕ) → Longest (λ i. is_white (byte_at xs i)) (length xs) n c → ((c < length xs) ⊎ (length xs ≤ c)) → Outcome (EndEnds xs n) (EndFault xs n)
+      fits c l (inl w) = behind_it c l w (cases_eq (byte_at xs c) (code ">"))
       fits c l (inr w) = bad (Scan (End (length xs))) (end_ended (run_out _ _ n c l w))
 
-      go : ((c : ℕ) × Longest (λ i. is_white (byte xs i)) (length xs) n c) → Outcome (EndEnds xs n) (EndFault xs n)
+      go : ((c : ℕ) × Longest (λ i. is_white (byte_at xs i)) (length xs) n c) → Outcome (EndEnds xs n) (EndFault xs n)
       go (c, l) = fits c l (cases_lt c (length xs))
 
-  some_bracket : (n : ℕ) → n < length xs → (is_white (byte xs n) || byte xs n == code ">") ≡ true → Outcome (TagEnds xs n) (TagFault xs n)
-  some_bracket n h b = go (longest (λ i. plain (byte xs i)) (length xs) n (omega arith))
+  some_bracket : (n : ℕ) → n < length xs → (is_white (byte_at xs n) || byte_at xs n == code ">") ≡ true → Outcome (TagEnds xs n) (TagFault xs n)
+  some_bracket n h b = go (longest (λ i. plain (byte_at xs i)) (length xs) n (omega arith))
     where
-      which : (c : ℕ) → Longest (λ i. plain (byte xs i)) (length xs) n c → c < length xs →
-          ((byte xs c ≡ code "<") ⊎ (byte xs c ≢ code "<")) → Outcome (TagEnds xs n) (TagFault xs n)
+      which : (c : ℕ) → Longest (λ i. plain (byte_at xs i)) (length xs) n c → c < length xs →
+          ((byte_at xs c ≡ code "<") ⊎ (byte_at xs c ≢ code "<")) → Outcome (TagEnds xs n) (TagFault xs n)
       which c l w (inl e) = bad (Scan (Byte c)) (bracket_opened c b l e)
       which c l w (inr ne) = good c (bracket_tag xs n c b l w ne)
 
-      fits : (c : ℕ) → Longest (λ i. plain (byte xs i)) (length xs) n c → ((c < length xs) ⊎ (length xs ≤ c)) → Outcome (TagEnds xs n) (TagFault xs n)
-      fits c l (inl w) = which c l w (cases_eq (byte xs c) (code "<"))
+      fits : (c : ℕ) → Longest (λ i. plain (byte_at xs i)) (length xs) n c → ((c < length xs) ⊎ (length xs ≤ c)) → Outcome (TagEnds xs n) (TagFault xs n)
+      fits c l (inl w) = which c l w (cases_eq (byte_at xs c) (code "<"))
       fits c l (inr w) = bad (Scan (End (length xs))) (unclosed b (run_out _ _ n c l w))
 
-      go : ((c : ℕ) × Longest (λ i. plain (byte xs i)) (length xs) n c) → Outcome (TagEnds xs n) (TagFault xs n)
+      go : ((c : ℕ) × Longest (λ i. plain (byte_at xs i)) (length xs) n c) → Outcome (TagEnds xs n) (TagFault xs n)
       go (c, l) = fits c l (cases_lt c (length xs))
 
   some_tag : (n : ℕ) → Outcome (TagEnds xs n) (TagFault xs n)
   some_tag n = go (cases_lt n (length xs))
     where
-      after_slash : byte xs n ≡ code "/" → n + 1 < length xs → ((byte xs (n + 1) ≡ code ">") ⊎ (byte xs (n + 1) ≢ code ">")) → Outcome (TagEnds xs n) (TagFault xs n)
+      after_slash : byte_at xs n ≡ code "/" → n + 1 < length xs → ((byte_at xs (n + 1) ≡ code ">") ⊎ (byte_at xs (n + 1) ≢ code ">")) → Outcome (TagEnds xs n) (TagFault xs n)
       after_slash s w (inl e) = good (n + 1) (slash_tag xs n s w e)
       after_slash s w (inr ne) = bad (Scan (Byte (n + 1))) (slash_byte s w ne)
 
-      slash : byte xs n ≡ code "/" → ((n + 1 < length xs) ⊎ (length xs ≤ n + 1)) → Outcome (TagEnds xs n) (TagFault xs n)
-      slash s (inl w) = after_slash s w (cases_eq (byte xs (n + 1)) (code ">"))
+      slash : byte_at xs n ≡ code "/" → ((n + 1 < length xs) ⊎ (length xs ≤ n + 1)) → Outcome (TagEnds xs n) (TagFault xs n)
+      slash s (inl w) = after_slash s w (cases_eq (byte_at xs (n + 1)) (code ">"))
       slash s (inr w) = bad (Scan (End (length xs))) (slash_ended s w)
 
-      other : n < length xs → (byte xs n ≢ code "/") →
-          (((is_white (byte xs n) || byte xs n == code ">") ≡ true) ⊎ ((is_white (byte xs n) || byte xs n == code ">") ≡ false)) →
+      other : n < length xs → (byte_at xs n ≢ code "/") →
+          (((is_white (byte_at xs n) || byte_at xs n == code ">") ≡ true) ⊎ ((is_white (byte_at xs n) || byte_at xs n == code ">") ≡ false)) →
           Outcome (TagEnds xs n) (TagFault xs n)
       other w s (inl b) = some_bracket n w b
       other w s (inr b) =
-          let h = or_parts (is_white (byte xs n)) (byte xs n == code ">") b in
+          let h = or_parts (is_white (byte_at xs n)) (byte_at xs n == code ">") b in
           bad (Scan (Byte n)) (tag_byte w (or_from _ _ h.0 (or_from _ _ (ne_eqb _ (code "/") s) h.1)))
 
-      by_slash : n < length xs → ((byte xs n ≡ code "/") ⊎ (byte xs n ≢ code "/")) → Outcome (TagEnds xs n) (TagFault xs n)
+      by_slash : n < length xs → ((byte_at xs n ≡ code "/") ⊎ (byte_at xs n ≢ code "/")) → Outcome (TagEnds xs n) (TagFault xs n)
       by_slash w (inl s) = slash s (cases_lt (n + 1) (length xs))
-      by_slash w (inr s) = other w s (cases_Bool (is_white (byte xs n) || byte xs n == code ">"))
+      by_slash w (inr s) = other w s (cases_Bool (is_white (byte_at xs n) || byte_at xs n == code ">"))
 
       go : ((n < length xs) ⊎ (length xs ≤ n)) → Outcome (TagEnds xs n) (TagFault xs n)
-      go (inl w) = by_slash w (cases_eq (byte xs n) (code "/"))
+      go (inl w) = by_slash w (cases_eq (byte_at xs n) (code "/"))
       go (inr w) = bad (Scan (End (length xs))) (tag_ended w)
 
 -- what is found at a place, by the markup that begins there
@@ -170,9 +170,9 @@ module _ (xs : List ℕ) (p : ℕ) (names : List (List ℕ)) (rooted : Bool) whe
       go (inr ne) r = fault (Scan (End (length xs))) (early (λ e _. ne e))
 
   at_text : Next xs p names rooted Text
-  at_text = go (cases_nil names) (cases_Bool (is_white (byte xs p)))
+  at_text = go (cases_nil names) (cases_Bool (is_white (byte_at xs p)))
     where
-      go : ((names ≡ []) ⊎ (names ≢ [])) → ((is_white (byte xs p) ≡ true) ⊎ (is_white (byte xs p) ≡ false)) → Next xs p names rooted Text
+      go : ((names ≡ []) ⊎ (names ≢ [])) → ((is_white (byte_at xs p) ≡ true) ⊎ (is_white (byte_at xs p) ≡ false)) → Next xs p names rooted Text
       go n (inl w) = skip (p + 1) (omega arith) (text (λ _. w))
       go (inl e) (inr w) = fault (Scan (Byte p)) (no_text e w)
       go (inr ne) (inr w) = skip (p + 1) (omega arith) (text (λ e. absurd (ne e)))
@@ -198,7 +198,7 @@ module _ (xs : List ℕ) (p : ℕ) (names : List (List ℕ)) (rooted : Bool) whe
       tag r n s (good c d) =
           let l = s.0.ends.late in
           let m = d.rest.late in
-          enter n (c + 1) (byte xs (c - 1) == code "/") (omega arith) (start r (record { name = s; close = c; tag = d; ends = refl; slash = refl }))
+          enter n (c + 1) (byte_at xs (c - 1) == code "/") (omega arith) (start r (record { name = s; close = c; tag = d; ends = refl; slash = refl }))
       tag r n s (bad f d) = fault f (start_rested n r s d)
 
       named : Room names rooted → Outcome (Spelled xs (p + 1)) (NameFault xs (p + 1)) → Next xs p names rooted StartTag

@@ -1,7 +1,7 @@
 //! Where names and tags end. A scan starts at any place, also past the end of the input. It takes and answers bare places, since the
 //! faults and the tags tell places: a cursor would be taken apart and made again at each step.
 ghost use Rattle.std.specs.Prelude.{◌≡◌, ◌≤◌, length, MatchResult};
-ghost use Rattle.labels.specs.Spelling.{byte, Longest, Spelled};
+ghost use Rattle.labels.specs.Spelling.{byte_at, Longest, Spelled};
 ghost use Rattle.xml.specs.Bytes.{plain};
 ghost use Rattle.xml.specs.Markup.{TagEnds, EndEnds, NameFault, TagFault, EndFault};
 ghost use Rattle.xml.specs.Inner.{Told, ClosesAt, CloseMissing, StartFault, Tagged};
@@ -31,7 +31,7 @@ fn is_plain(b: u8) -> bool
 
 // The first place of `<` or `>`, or the length.
 fn bracket_place(input: &[u8], from: usize) -> usize
-    ensures { from ≤ length input.now → Longest (λ i. plain (byte input.now i)) (length input.now) from result }
+    ensures { from ≤ length input.now → Longest (λ i. plain (byte_at input.now i)) (length input.now) from result }
 {
     run_end(input, from, is_plain)
 }

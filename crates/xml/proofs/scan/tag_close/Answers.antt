@@ -1,6 +1,6 @@
 use Rattle.std.proofs.Common.{◌≡◌, true, false, ◌||◌, eqb, sym, ◌∙◌, subst, arith, ltb-false, ltb-true}
 use Rattle.std.proofs.lemmas.Bool.{or_from, or_left, or_right, ne_eqb, both_ways}
-use Rattle.labels.specs.Spelling.{byte, is_white}
+use Rattle.labels.specs.Spelling.{byte_at, is_white}
 use Rattle.xml.specs.Markup.TagFault.{ended, byte_behind}
 use Rattle.xml.specs.Shapes.{from_place}
 use Rattle.xml.proofs.Ends.{slash_closes, bracket_closes}
@@ -19,7 +19,7 @@ pub returns-then-b-eq62 : goal.returns-then-b-eq62
 returns-then-b-eq62 c =
     let xs = c.args.input.now in
     let s = from_place xs c.rest.result.now c.args.at c.rest.ensures in
-    let first = byte c.rest.result.now 0 in
+    let first = byte_at c.rest.result.now 0 in
     let h : (is_white first || eqb first 62) ≡ true =
     elim c.if-is_white.branch [
       | then-is_white w ↦ or_left (is_white first) (eqb first 62) (sym w.if-is_white.ensures)
@@ -31,7 +31,7 @@ returns-then-b-eq62 c =
 pub returns-else-b-eq62 : goal.returns-else-b-eq62
 returns-else-b-eq62 c =
     let s = from_place c.args.input.now c.rest.result.now c.args.at c.rest.ensures in
-    let first = byte c.rest.result.now 0 in
+    let first = byte_at c.rest.result.now 0 in
     let h : (is_white first || (eqb first 47 || eqb first 62)) ≡ false =
     elim c.if-is_white.branch [
       | then-is_white w ↦ absurd (both_ways _ c.if-b-eq62.false (w.value-is ∙ w.if-is_white.true))
