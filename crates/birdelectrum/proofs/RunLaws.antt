@@ -1,6 +1,6 @@
 -- What is read and printed.
-use Rattle.std.proofs.Common.{Option, Some, None, Result, Ok, Err, ◌∙◌, ◌≡◌, ℕ, ◌+◌, ◌≤◌, List, length, take, subst, arith}
-use Rattle.std.specs.Prelude.{IfSome, OnOk}
+use Rattle.std.proofs.Common.{Option, Some, None, Ok, ◌∙◌, ◌≡◌, ℕ, ◌+◌, ◌≤◌, List, length, take, subst, arith}
+use Rattle.std.specs.Prelude.{IfSome}
 use Rattle.std.specs.Io.KnownBytes.{Appends}
 use Rattle.reports.specs.declared.report.Report.{Report}
 use Rattle.reports.specs.Refusals.{input_limit, numbers_limit}
@@ -42,13 +42,13 @@ prints_whole input text p =
       text_is = p.text_is;
     }
 
-pub answered : {E : Type 0} (wrote : Result (Unit {0}) E) (known : Option (List ℕ)) (old new : Option (List ℕ)) (input read text written : List ℕ)
-    → IfSome known (λ xs. input ≡ take (input_limit + 1) xs) → read ≡ input → Prints read text → written ≡ text
-    → OnOk wrote (Appends old new written) → OnOk wrote (IfSome known (λ xs. Answers xs old new))
-answered (Err e) known old new input read text written k r p w a = tt
-answered (Ok u) None old new input read text written k r p w a = tt
-answered (Ok u) (Some xs) old new input read text written k r p w a = record {
-  text = text;
-  prints = prints_whole xs text (subst (λ bs. Prints bs text) (r ∙ k) p);
-  written = subst (λ bs. Appends old new bs) w a;
-}
+-- where the input is known
+pub printed_whole : (known : Option (List ℕ)) (read part text : List ℕ) → IfSome known (λ input. read ≡ take (input_limit + 1) input)
+    → part ≡ read → Prints part text → IfSome known (λ input. Prints input text)
+printed_whole None read part text k e p = tt
+printed_whole (Some input) read part text k e p = prints_whole input text (subst (λ xs. Prints xs text) (e ∙ k) p)
+
+-- and written behind what was there
+pub answered : (input text bytes : List ℕ) (old new : Option (List ℕ)) → Prints input text → bytes ≡ text → Appends old new bytes
+    → Answers input old new
+answered input text bytes old new p e a = record { text = text; prints = p; written = subst (λ xs. Appends old new xs) e a }

@@ -41,12 +41,19 @@ pub fn answer(input: &[u8], heap: Global) -> Result<String, AllocError>
     text(&numbers[..report.reported], report, heap)
 }
 
+// What is printed of the input that is read.
+fn read_answer<R: Read + Drop>(reader: R, heap: Global) -> io::Result<String>
+    ensures { IfOk result (λ text. IfSome (R.remaining reader) (λ input. Prints input (string_bytes text))) }
+{
+    let input = read_input(reader, heap)?;
+    Ok(answer(&input, heap)?)
+}
+
 /// Reads an input, and writes what is printed of it.
 #[tactic(auto, using(crate::proofs::RunLaws::answered))]
 pub fn run<R: Read + Drop, W: Write>(reader: R, writer: &mut W, heap: Global) -> io::Result<()>
     ensures { OnOk result (IfSome (R.remaining reader) (λ input. Answers input (W.contents writer.old) (W.contents writer.new))) }
 {
-    let input = read_input(reader, heap)?;
-    let text = answer(&input, heap)?;
+    let text = read_answer(reader, heap)?;
     writer.write_all(text.as_bytes())
 }
