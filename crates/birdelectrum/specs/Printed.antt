@@ -17,8 +17,8 @@ number_line n = decimal n ++ codes "\n"
 abbrev pub printed : List ℕ → Report → List ℕ
 printed numbers report = flat_map number_line numbers ++ (report_text report ++ codes "\n")
 
--- The text is what is printed of an input, however long: its report, made with a list of numbers_limit numbers, and before it those of
--- the list that are reported. Where nothing is refused, they are the numbers of the elements that the input's first line selects.
+-- The text is what is printed of an input, however long the input is: the numbers that are reported of it into a list of numbers_limit
+-- numbers, and the report. Where nothing is refused, they are the numbers of the elements that the input's first line selects.
 pub record Prints (input text : List ℕ) : Type 0 where
   pub before : List ℕ
   pub report : Report
