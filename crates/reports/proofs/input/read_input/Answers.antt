@@ -1,4 +1,4 @@
-use Rattle.std.proofs.Common.{◌≡◌, ℕ, take, ◌++◌, List, IfSome, subst}
+use Rattle.std.proofs.Common.{◌≡◌, take, ◌++◌, IfSome, subst}
 use Rattle.std.specs.Option.{option_map}
 use Rattle.reports.proofs.Known.{read_limited}
 use Rattle.reports.proofs.input.read_input.Goals as goal
