@@ -16,7 +16,7 @@ left : (xs : List ℕ) (i : ℕ) → i < length xs → drop i xs ≡ get_or xs i
 left xs i l = drop-cons xs i 0 l ∙ (let e : suc i ≡ i + 1 = omega arith in ap (λ j. get_or xs i 0 ∷ drop j xs) e)
 
 -- what has come up to place i
-come : (xs : List ℕ) (i : ℕ) → i < length xs → take (i + 1) xs ≡ take i xs ++ get_or xs i 0 ∷ []
+pub come : (xs : List ℕ) (i : ℕ) → i < length xs → take (i + 1) xs ≡ take i xs ++ get_or xs i 0 ∷ []
 come xs i l = (let e : i + 1 ≡ suc i = omega arith in ap (λ j. take j xs) e) ∙ take-suc xs i 0 l
 
 module _ (F S : Nodes Name) where

@@ -69,17 +69,18 @@ bytes_same a b = (bytes_eq-Decides a b).0
 bytes_equivalence : IsEquivalence bytes_eq
 bytes_equivalence = nat_list_eq_equiv
 
--- Nodes with names, of which those of two listings are the bytes
+-- nodes with names, of which those of a listing are the bytes
+pub ordered : (ns : Nodes Name) (xs : List (Event (List ℕ))) → map (relabelled bytes_of) ns ≡ nodes xs → ParentsFirst ns
+ordered ns xs e v u a h = parents_first xs v u (bytes_of a) (ap (λ (ks : Nodes (List ℕ)). slice_get ks v) (sym e) ∙ there bytes_of ns v (Some u) a h)
+
+pub count : (ns : Nodes Name) (xs : List (Event (List ℕ))) → map (relabelled bytes_of) ns ≡ nodes xs → length ns ≡ length (nodes xs)
+count ns xs e = sym (length-map ns (relabelled bytes_of)) ∙ ap length e
+
+-- of two listings
 module _ (one two : Nodes Name) (es ds : List (Event (List ℕ)))
     (nodes₁ : map (relabelled bytes_of) one ≡ nodes es) (nodes₂ : map (relabelled bytes_of) two ≡ nodes ds) where
   abbrev same_bytes : Name → Name → Bool
   same_bytes a b = bytes_eq (bytes_of a) (bytes_of b)
-
-  ordered : (ns : Nodes Name) (xs : List (Event (List ℕ))) → map (relabelled bytes_of) ns ≡ nodes xs → ParentsFirst ns
-  ordered ns xs e v u a h = parents_first xs v u (bytes_of a) (ap (λ (ks : Nodes (List ℕ)). slice_get ks v) (sym e) ∙ there bytes_of ns v (Some u) a h)
-
-  count : (ns : Nodes Name) (xs : List (Event (List ℕ))) → map (relabelled bytes_of) ns ≡ nodes xs → length ns ≡ length (nodes xs)
-  count ns xs e = sym (length-map ns (relabelled bytes_of)) ∙ ap length e
 
   pairing : (f g : ℕ → ℕ) → Pairing bytes_eq (nodes es) (nodes ds) f g → Pairing same_bytes one two f g
   pairing f g p =

@@ -4,3 +4,6 @@ pub mod AgreeLaws
 pub mod TextLaws
 pub mod Paired
 pub mod ComparedLaws
+pub mod Reported
+pub mod PrintLaws
+pub mod RunLaws

@@ -10,7 +10,7 @@ use Rattle.selection.proofs.Pairs.{fewer}
 use Rattle.compare.specs.Paths.{SamePath, SameOften, Agree}
 use Rattle.compare.proofs.PathLaws.{turned, same_along, same_or_not}
 
-node_at : {X : Type 0} (xs : List X) (k : ℕ) → k < length xs → (x : X) × (slice_get xs k ≡ Some x)
+pub node_at : {X : Type 0} (xs : List X) (k : ℕ) → k < length xs → (x : X) × (slice_get xs k ≡ Some x)
 node_at [] k l = absurd (omega arith)
 node_at (x ∷ xs) zero l = (x, refl)
 node_at (x ∷ xs) (suc k) l = node_at xs k (omega arith)

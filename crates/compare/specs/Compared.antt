@@ -1,5 +1,5 @@
 -- Two listings, compared by what a rule selects from them.
-use Rattle.std.specs.Prelude.{◌≡◌, ℕ, Bool, false, List, [], length, map, take, Some, None, Ok, Option, Decides, ◌≢◌}
+use Rattle.std.specs.Prelude.{◌≡◌, ℕ, Bool, false, List, [], length, map, take, Some, None, Ok, Err, Option, Decides, ◌≢◌}
 use Rattle.std.specs.Str.{bytes_eq}
 use Rattle.labels.specs.Names.{bytes_of}
 use Rattle.rules.specs.Embedding.{Nodes}
@@ -8,14 +8,16 @@ use Rattle.sources.specs.declared.event.Event.{Event}
 use Rattle.sources.specs.Nodes.{nodes}
 use Rattle.selection.specs.Answers.{Answer}
 use Rattle.selection.specs.Pairing.{Pairing}
+use Rattle.selection.specs.declared.refusal.Refusal.{Refusal as SelectRefusal}
 use Rattle.xml.specs.Reading.{Reads}
 use Rattle.xml.specs.declared.fault.XmlFault.{XmlFault}
+use Rattle.reports.specs.declared.refusal.Refusal.TheVariants.{Selection}
 use Rattle.reports.specs.Parts.{Splits}
 use Rattle.reports.specs.Reports.{Asks, Concludes, SelectedBy}
 use Rattle.compare.specs.declared.node.Node.{Node}
 use Rattle.compare.specs.declared.side.Side.{Side}
 use Rattle.compare.specs.declared.comparison.Comparison.{Comparison}
-use Rattle.compare.specs.Paths.{entries, Agree}
+use Rattle.compare.specs.Paths.{entries, Agree, HavePaths}
 
 -- the nodes with the bytes of their names
 abbrev pub spelled_entries : List Node → Nodes (List ℕ)
@@ -50,3 +52,12 @@ pub record Compared (bs before₁ before₂ : List ℕ) (c : Comparison) (after�
   pub agreement : Agreement c.first after₁ c.second after₂ c.agreement
   -- Where the nodes of the listings pair off, in whatever order siblings stand, the selections agree if both finish.
   pub paired : (f g : ℕ → ℕ) → Pairing bytes_eq (nodes first.events) (nodes second.events) f g → c.agreement ≢ Some false
+
+-- The numbers reported of a side are those of nodes, each with a path.
+abbrev pub ReportsPaths : Side → List ℕ → Type 0
+ReportsPaths side numbers = HavePaths (entries side.nodes.items) (take side.report.reported numbers)
+
+-- No selection is refused: none but a fault of its listing ends it early.
+pub record Unrefused (c : Comparison) : Type 0 where
+  pub first : (r : SelectRefusal) (n : ℕ) → c.first.report.verdict ≡ Err (Selection r n) → ⊥
+  pub second : (r : SelectRefusal) (n : ℕ) → c.second.report.verdict ≡ Err (Selection r n) → ⊥

@@ -1,3 +1,4 @@
 pub mod Paths
 pub mod Growing
 pub mod Compared
+pub mod Printed

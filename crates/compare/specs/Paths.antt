@@ -51,3 +51,12 @@ pub data PathText (nodes : Nodes Name) : ℕ → List ℕ → Type 0 where
 pub data Pushed (nodes : Nodes Name) (v : ℕ) (before : List ℕ) : Bool → List ℕ → Type 0 where
   pushed : {t after : List ℕ} → PathText nodes v t → after ≡ before ++ t → Pushed nodes v before true after
   no_path : {after : List ℕ} → ((t : List ℕ) → PathText nodes v t → ⊥) → after ≡ before → Pushed nodes v before false after
+
+-- v is the number of a node with a path
+pub record HasPath (nodes : Nodes Name) (v : ℕ) : Type 0 where
+  pub text : List ℕ
+  pub path : PathText nodes v text
+
+-- so is each of these numbers
+pub record HavePaths (nodes : Nodes Name) (vs : List ℕ) : Type 0 where
+  pub each : (v : ℕ) → In v vs → HasPath nodes v

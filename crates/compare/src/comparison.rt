@@ -1,7 +1,8 @@
 //! Two listings, compared by what a rule selects from them.
-ghost use Rattle.std.specs.Prelude.{◌≡◌, ℕ, List, IfOk, MatchResult};
+ghost use Rattle.std.specs.Prelude.{◌≡◌, ℕ, ◌≤◌, List, length, IfOk, MatchResult};
+ghost use Rattle.reports.specs.Refusals.{numbers_limit};
 ghost use Rattle.reports.specs.Reports.{Bad, QuestionOf};
-ghost use Rattle.compare.specs.Compared.{Agreement, Compared};
+ghost use Rattle.compare.specs.Compared.{Agreement, Compared, ReportsPaths, Unrefused};
 
 use crate::path::agree;
 use crate::side::Side;
@@ -72,15 +73,18 @@ fn answer(
 ///
 /// Where memory runs out, the outer error; where the input is too long or its rule text is refused, the inner one, and both lists stay as
 /// they were.
+#[tactic(auto, using(crate::proofs::Reported::compared_laws))]
 pub fn compare(
     input: &[u8],
     ones: &mut [u32],
     twos: &mut [u32],
     heap: Global,
 ) -> Result<Result<Comparison, Refusal>, AllocError>
-    ensures { IfOk result (λ answer. MatchResult answer
+    ensures compared { IfOk result (λ answer. MatchResult answer
         (λ c. Compared input.now ones.old twos.old c ones.new twos.new)
         (λ r. Bad input.now r × (ones.new ≡ ones.old) × (twos.new ≡ twos.old))) }
+    ensures paths { IfOk result (λ answer. IfOk answer (λ c. ReportsPaths c.first ones.new × ReportsPaths c.second twos.new)) }
+    ensures room { numbers_limit ≤ length ones.old → numbers_limit ≤ length twos.old → IfOk result (λ answer. IfOk answer Unrefused) }
 {
     match Question::read(input) {
         Ok(question) => Ok(Ok(answer(&question, ones, twos, heap)?)),
