@@ -9,7 +9,8 @@ use Rattle.compare.specs.declared.node.Node.{Node}
 use Rattle.compare.specs.declared.side.Side.{Side}
 use Rattle.compare.specs.declared.comparison.Comparison.{Comparison}
 use Rattle.compare.specs.Paths.{entries, PathText, Pushed, HasPath, HavePaths}
-use Rattle.compare.specs.Printed.{LineAdded, LinesAdded, PathLines, SideAdded, SideText, ComparisonText, verdict_line}
+use Rattle.compare.specs.Printed.{PathLines, SideText, ComparisonText, verdict_line}
+use Rattle.compare.specs.Adding.{LineAdded, LinesAdded, SideAdded}
 use Rattle.compare.proofs.AgreeLaws.{come}
 
 module _ (nodes : Nodes Name) where

@@ -2,3 +2,4 @@ pub mod Paths
 pub mod Growing
 pub mod Compared
 pub mod Printed
+pub mod Adding

@@ -17,22 +17,10 @@ pub data PathLines (nodes : Nodes Name) : List ℕ → List ℕ → Type 0 where
   none : PathLines nodes [] []
   line : {v : ℕ} {vs path text : List ℕ} → PathText nodes v path → PathLines nodes vs text → PathLines nodes (v ∷ vs) (path ++ codes "\n" ++ text)
 
--- the line of a node is appended to a text
-pub data LineAdded (nodes : Nodes Name) (v : ℕ) (before : List ℕ) : List ℕ → Type 0 where
-  line_added : {path after : List ℕ} → PathText nodes v path → after ≡ before ++ path ++ codes "\n" → LineAdded nodes v before after
-
--- these lines are appended to a text
-pub data LinesAdded (nodes : Nodes Name) (vs before : List ℕ) : List ℕ → Type 0 where
-  lines_added : {lines after : List ℕ} → PathLines nodes vs lines → after ≡ before ++ lines → LinesAdded nodes vs before after
-
 -- one side: the paths of the folders that are reported, and how the selection ended
 pub data SideText (side : Side) (numbers : List ℕ) : List ℕ → Type 0 where
   side_text : {paths : List ℕ} → PathLines (entries side.nodes.items) (take side.report.reported numbers) paths
       → SideText side numbers (paths ++ report_text side.report ++ codes "\n")
-
--- a side is appended to a text
-pub data SideAdded (side : Side) (numbers before : List ℕ) : List ℕ → Type 0 where
-  side_added : {text after : List ℕ} → SideText side numbers text → after ≡ before ++ text → SideAdded side numbers before after
 
 abbrev pub verdict_line : Option Bool → List ℕ
 verdict_line (Some true) = codes "alike\n"

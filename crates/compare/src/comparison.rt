@@ -83,7 +83,9 @@ pub fn compare(
     ensures compared { IfOk result (λ answer. MatchResult answer
         (λ c. Compared input.now ones.old twos.old c ones.new twos.new)
         (λ r. Bad input.now r × (ones.new ≡ ones.old) × (twos.new ≡ twos.old))) }
+    // Each number to report is that of a node with a path.
     ensures paths { IfOk result (λ answer. IfOk answer (λ c. ReportsPaths c.first ones.new × ReportsPaths c.second twos.new)) }
+    // With room for the numbers of any listing, no selection is refused.
     ensures room { numbers_limit ≤ length ones.old → numbers_limit ≤ length twos.old → IfOk result (λ answer. IfOk answer Unrefused) }
 {
     match Question::read(input) {

@@ -4,7 +4,8 @@ ghost use Rattle.reports.specs.Refusals.{numbers_limit};
 ghost use Rattle.reports.specs.Printed.{report_text};
 ghost use Rattle.compare.specs.Paths.{entries, HasPath, HavePaths};
 ghost use Rattle.compare.specs.Compared.{ReportsPaths};
-ghost use Rattle.compare.specs.Printed.{LineAdded, LinesAdded, SideAdded, ComparisonText, refused_line, Prints, Answers};
+ghost use Rattle.compare.specs.Printed.{ComparisonText, refused_line, Prints, Answers};
+ghost use Rattle.compare.specs.Adding.{LineAdded, LinesAdded, SideAdded};
 
 use crate::comparison::{Comparison, compare};
 use crate::node::Node;

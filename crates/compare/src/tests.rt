@@ -1,5 +1,6 @@
 //! Whole inputs.
 use crate::comparison::compare;
+use crate::printing::run;
 
 // For each input: the agreement, and how many folders are reported from each listing.
 const COMPARED: [(&[u8], Option<bool>, usize, usize); 9] = [
@@ -50,4 +51,27 @@ fn refused(rt: HostRuntime) {
         .map(|_| ())
         .map_err(|refusal| (refusal.number(), refusal.place()));
     assert_eq!(rt; told, Err((11, 4)));
+}
+
+// What is printed of inputs.
+const PRINTED: [(&[u8], &[u8]); 4] = [
+    (
+        b"//a\n<r><a/></r>\0<r><a/><b/><a/></r>",
+        b"/r/a\nselected 1\n/r/a\n/r/a\nselected 2\nnot alike\n",
+    ),
+    (
+        b"//a\n<r><a/></b>\0<r><a/></r>",
+        b"/r/a\nrefused 33 at 9\n/r/a\nselected 1\nnot compared\n",
+    ),
+    (b"//a\n<r/>\0<r/>", b"selected 0\nselected 0\nalike\n"),
+    (b"//a[\n<a/>\0<a/>", b"refused 11 at 4\n"),
+];
+
+#[test]
+fn printed(rt: HostRuntime) {
+    for (input, text) in PRINTED {
+        let mut written = Vec::new(rt.alloc());
+        run(input, &mut written, rt.alloc()).expect(&rt, "memory");
+        assert_eq!(rt; written.as_slice(), text, "of {input:?}");
+    }
 }

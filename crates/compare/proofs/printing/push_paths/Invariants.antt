@@ -1,6 +1,6 @@
 use Rattle.std.proofs.Common.{take}
 use Rattle.compare.specs.Paths.{entries}
-use Rattle.compare.specs.Printed.{LinesAdded}
+use Rattle.compare.specs.Adding.{LinesAdded}
 use Rattle.compare.proofs.printing.push_paths.Given as goal
 
 abbrev pub invariant-loop-number : goal.invariant-loop-number
