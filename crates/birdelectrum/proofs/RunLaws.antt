@@ -8,6 +8,7 @@ use Rattle.reports.specs.Elements.{WithRoom, SelectsElements}
 use Rattle.reports.specs.Reports.{OnlyReports}
 use Rattle.reports.proofs.Cut.{cut_reports, cut_room, cut_elements}
 use Rattle.birdelectrum.specs.Printed.{printed, Prints, Answers}
+use Rattle.birdelectrum.proofs.OneText.{one_text}
 
 -- a report on an input is printed
 pub prints : (input before after text : List ℕ) (report : Report) → length before ≡ numbers_limit
@@ -51,4 +52,9 @@ printed_whole (Some input) read part text k e p = prints_whole input text (subst
 -- and written behind what was there
 pub answered : (input text bytes : List ℕ) (old new : Option (List ℕ)) → Prints input text → bytes ≡ text → Appends old new bytes
     → Answers input old new
-answered input text bytes old new p e a = record { text = text; prints = p; written = subst (λ xs. Appends old new xs) e a }
+answered input text bytes old new p e a = record {
+  text = text;
+  prints = p;
+  only = λ t q. one_text input t text q p;
+  written = subst (λ xs. Appends old new xs) e a;
+}

@@ -30,8 +30,9 @@ pub record Prints (input text : List ℕ) : Type 0 where
   pub elements : report.verdict ≡ Ok tt → SelectsElements input (take report.reported after)
   pub text_is : text ≡ printed (take report.reported after) report
 
--- What is printed of an input is written behind what was written before.
+-- The one text that is printed of the input is written behind what was written before.
 pub record Answers (input : List ℕ) (old new : Option (List ℕ)) : Type 0 where
   pub text : List ℕ
   pub prints : Prints input text
+  pub only : (t : List ℕ) → Prints input t → t ≡ text
   pub written : Appends old new text
