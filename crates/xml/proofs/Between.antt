@@ -1,14 +1,17 @@
 -- What goes by between tags.
-use Rattle.std.proofs.Common.{◌≡◌, ℕ, ◌+◌, Bool, true, false, ◌⊎◌, List, [], ◌∷◌, length, drop, sym, refl, ap, ◌∙◌, subst, inl, inr, arith}
-use Rattle.std.proofs.lemmas.Bool.{both_ways}
-use Rattle.labels.specs.Spelling.{byte_at, is_white}
+use Rattle.std.proofs.Common.{◌≡◌, ℕ, zero, suc, ◌+◌, ◌-◌, ◌<◌, ◌≤◌, Bool, true, false, not, cond, ◌==◌, ◌⊎◌, List, [], ◌∷◌, length, drop, sym, refl, ap, ◌∙◌, subst, inl, inr, arith}
+use Prim.Native.Char.{code}
+use Rattle.std.proofs.lemmas.Bool.{both_ways, not-true, eqb-true}
+use Rattle.labels.specs.Spelling.{byte_at, is_white, Longest}
+use Rattle.xml.specs.Bytes.{text as text_byte}
+use Rattle.xml.specs.Shapes.{From, from_place}
 use Rattle.xml.specs.Faults.{scan_number, scan_place}
-use Rattle.xml.specs.Markup.{markup, IsComment, IsInstruction, CommentFault, InstructionFault}
+use Rattle.xml.specs.Markup.{markup, behind, IsComment, IsInstruction, CommentFault, InstructionFault}
 use Rattle.xml.specs.Reading.{Found, Finds, FindsAt}
 use Rattle.xml.specs.Reading.Found.{skips}
 use Rattle.xml.specs.Reading.Finds.{text, comment, instruction}
 use Rattle.xml.specs.FaultLaws.{no_text, comment_fault, instruction_fault, declaration, cut, stray}
-use Rattle.xml.specs.Inner.{stop_markup, some, GoesBy, Refused, Passes}
+use Rattle.xml.specs.Inner.{stop_markup, some, GoesBy, Refused, Passes, PassesText}
 use Rattle.xml.specs.Inner.Passes.{here, on}
 use Rattle.xml.specs.Documents.{StartsAt, Misc}
 use Rattle.xml.specs.Documents.Misc.{space, comment as comment_misc, instruction as instruction_misc}
@@ -86,3 +89,54 @@ module _ (xs : List ℕ) (inside : Bool) (p : ℕ) where
 
   pub stray_no : Stray ≡ markup (drop p xs) → Refused xs inside p (Scan (Byte (p + 1)))
   stray_no e names rooted i = found xs p names rooted Stray _ e stray
+
+-- one way behind another
+pub passes_on : (xs : List ℕ) (inside : Bool) (p q r : ℕ) → Passes xs inside p q → Passes xs inside q r → Passes xs inside p r
+passes_on xs inside p q r a here = a
+passes_on xs inside p q r a (on {q = o} b by) = on (passes_on xs inside p q o a b) by
+
+-- where a byte that begins no markup stands
+pub text_here : (xs : List ℕ) (p : ℕ) → p < length xs → text_byte (byte_at xs p) ≡ true → Text ≡ markup (drop p xs)
+text_here xs p l t = go (drop p xs) (from_place xs (drop p xs) p refl)
+  where
+    go : (bs : List ℕ) → From xs p bs → Text ≡ markup bs
+    go [] f = absurd (omega (arith, f.long))
+    go (b ∷ bs) f = sym (ap (λ c. cond c (behind bs) Text) (not-true _ (ap text_byte f.first ∙ t)))
+
+-- white space is text
+white_text : (b : ℕ) → is_white b ≡ true → text_byte b ≡ true
+white_text b w = go (b == code "<") refl
+  where
+    go : (t : Bool) → (b == code "<") ≡ t → not t ≡ true
+    go false e = refl
+    go true e = absurd (both_ways (is_white b) (ap is_white (eqb-true b (code "<") e)) w)
+
+-- Text goes by, byte by byte: inside any, outside white space.
+text_goes : (xs : List ℕ) (inside : Bool) (p n : ℕ) → p + n ≤ length xs →
+    ((i : ℕ) → p ≤ i → i < p + n → (text_byte (byte_at xs i) ≡ true) × ((inside ≡ true) ⊎ (is_white (byte_at xs i) ≡ true))) →
+    Passes xs inside p (p + n)
+text_goes xs inside p zero w h = subst (Passes xs inside p) (omega arith) here
+text_goes xs inside p (suc n) w h =
+    let t = h (p + n) (omega arith) (omega arith) in
+    let rest = text_goes xs inside p n (omega arith) (λ i a b. h i a (omega arith)) in
+    subst (Passes xs inside p) (omega arith) (on rest (text_by xs inside (p + n) (text_here xs (p + n) (omega arith) t.0) t.1))
+
+module _ (xs : List ℕ) (p q : ℕ) where
+  -- a run of places goes by
+  passes_run : (inside : Bool) (ok : ℕ → Bool) → Longest (λ i. ok (byte_at xs i)) (length xs) p q →
+      ((b : ℕ) → ok b ≡ true → (text_byte b ≡ true) × ((inside ≡ true) ⊎ (is_white b ≡ true))) → PassesText xs inside p q
+  passes_run inside ok l h =
+      let late = l.late in
+      let within = l.within in
+      let e : p + (q - p) ≡ q = omega arith in
+      record {
+        late = l.late;
+        within = l.within;
+        passes = subst (Passes xs inside p) e (text_goes xs inside p (q - p) (omega arith) (λ i a b. h (byte_at xs i) (l.all i a (omega arith))));
+      }
+
+  pub passes_text : Longest (λ i. text_byte (byte_at xs i)) (length xs) p q → PassesText xs true p q
+  passes_text l = passes_run true text_byte l (λ b t. (t, inl refl))
+
+  pub passes_white : Longest (λ i. is_white (byte_at xs i)) (length xs) p q → PassesText xs false p q
+  passes_white l = passes_run false is_white l (λ b w. (white_text b w, inr w))

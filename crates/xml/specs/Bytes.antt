@@ -7,6 +7,10 @@ use Rattle.labels.specs.Spelling.{byte_at}
 abbrev pub plain : ℕ → Bool
 plain b = not (b == code "<" || b == code ">")
 
+-- no markup begins with it
+abbrev pub text : ℕ → Bool
+text b = not (b == code "<")
+
 -- the bytes a and b do not stand at i and behind it
 abbrev pub apart : List ℕ → ℕ → ℕ → ℕ → Bool
 apart xs a b i = not (byte_at xs i == a && byte_at xs (i + 1) == b)

@@ -72,6 +72,12 @@ pub data Passes (xs : List ℕ) (inside : Bool) (p : ℕ) : ℕ → Type 0 where
   here : Passes xs inside p p
   on : {q r : ℕ} → Passes xs inside p q → GoesBy xs inside q r → Passes xs inside p r
 
+-- so far text goes by from p on
+pub record PassesText (xs : List ℕ) (inside : Bool) (p q : ℕ) : Type 0 where
+  pub late : p ≤ q
+  pub within : q ≤ length xs
+  pub passes : Passes xs inside p q
+
 -- the markup that begins where the reader stops
 abbrev pub stop_markup : Stop → Markup
 stop_markup start_tag = StartTag

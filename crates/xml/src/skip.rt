@@ -1,14 +1,14 @@
 //! What stands between tags. Scans take and answer bare places, for the reason at the head of scan.rt.
 ghost use Rattle.std.specs.Prelude.{◌≡◌, ◌+◌, ◌<◌, ◌≤◌, length, drop, MatchResult, slice_index, not};
 ghost use Rattle.labels.specs.Spelling.{Longest};
-ghost use Rattle.xml.specs.Bytes.{apart};
+ghost use Rattle.xml.specs.Bytes.{apart, text};
 ghost use Rattle.xml.specs.Markup.{markup, CommentEnds, IsComment, IsInstruction, CommentFault, InstructionFault};
-ghost use Rattle.xml.specs.Inner.{Told, stop_markup, Steps, Refused, Passes};
+ghost use Rattle.xml.specs.Inner.{Told, stop_markup, Steps, Refused, Passes, PassesText};
 ghost use Rattle.xml.specs.declared.markup.Markup.TheVariants.{Comment, Instruction};
 
 use crate::fault::{ScanFault, XmlFault};
 use crate::markup::{Markup, Stop};
-use labels::spelling::{is_white, rest, starts_name};
+use labels::spelling::{is_white, rest, run_end, starts_name, white_end};
 use std::ops::ControlFlow;
 
 // Which markup begins at the place.
@@ -104,6 +104,24 @@ fn skip_one(input: &[u8], at: usize, inside: bool) -> Result<ControlFlow<Stop, u
     }
 }
 
+// Whether the byte begins no markup.
+fn is_text(b: u8) -> bool
+    ensures { result ≡ text b }
+{
+    b != b'<'
+}
+
+// How far text goes by from the place on: inside, up to the next `<`; outside it is white space alone.
+fn text_end(input: &[u8], from: usize, inside: bool) -> usize
+    ensures { from ≤ length input.now → PassesText input.now inside from result }
+{
+    if inside {
+        run_end(input, from, is_text)
+    } else {
+        white_end(input, from)
+    }
+}
+
 /// Reads on to the next tag or the end, and tells which.
 pub fn skip(input: &[u8], place: &mut usize, inside: bool) -> Result<Stop, XmlFault>
     ensures within { place.old ≤ length input.now → place.new ≤ length input.now }
@@ -112,7 +130,8 @@ pub fn skip(input: &[u8], place: &mut usize, inside: bool) -> Result<Stop, XmlFa
 {
     loop {
         match skip_one(input, *place, inside)? {
-            ControlFlow::Continue(next) => *place = next,
+            // Text may be long, so that it goes by in a loop of its own.
+            ControlFlow::Continue(next) => *place = text_end(input, next, inside),
             ControlFlow::Break(stop) => return Ok(stop),
         }
     }
