@@ -3,6 +3,7 @@ ghost use Rattle.std.specs.Prelude.{◌≤◌, length, MatchResult};
 ghost use Rattle.std.specs.List.{AllByRecursion};
 ghost use Rattle.std.proofs.Props.{props};
 ghost use Rattle.rules.specs.Parsing.{InText, Parses, ParseFails};
+ghost use Rattle.rules.specs.Machine.{Next};
 
 use crate::lexer::next_token;
 use crate::node::Edge;
@@ -23,14 +24,17 @@ const BRACKET_LIMIT: usize = 16;
 struct Reader<'a> {
     text: &'a [u8],
     at: usize,
+    // the token that comes next
+    next: Token,
     nodes: ArrayVec<ParsedNode, NODE_LIMIT>,
     ghost within: { at ≤ length text.now },
+    ghost upcoming: { Next text.now at next } by { Prim.hlevel props },
     ghost in_text: { AllByRecursion (InText text.now) nodes.items } by { Prim.hlevel props },
 }
 
 impl<'a> Reader<'a> {
     ghost use Rattle.std.specs.Prelude.{◌≡◌, MatchOption};
-    ghost use Rattle.rules.specs.Readers.{Fresh, left, front, Upcoming, Expected, Unexpected, Noted, NoteFails, Begun, BeginFails, Joined, Unjoined, StepRead, StepFails, PredicateRead, PredicateFails, PathRead, PathFails};
+    ghost use Rattle.rules.specs.Readers.{Fresh, left, front, Expected, Unexpected, Noted, NoteFails, Begun, BeginFails, Joined, Unjoined, StepRead, StepFails, PredicateRead, PredicateFails, PathRead, PathFails};
     ghost use Rattle.rules.specs.declared.syntax.Kind.TheVariants.{Open};
 
     // At the front of the text.
@@ -40,27 +44,27 @@ impl<'a> Reader<'a> {
         Reader {
             text,
             at: 0,
+            next: next_token(text, 0),
             nodes: ArrayVec::new(),
         }
     }
 
-    // The token that comes next.
-    fn peek(&self) -> Token
-        ensures { Upcoming self.now result }
+    // Passes the next token, and looks at the one behind it.
+    fn pass(&mut self)
+        ensures { Expected self.old self.new self.old.next.kind }
     {
-        next_token(self.text, self.at)
+        self.at = self.next.place + self.next.len;
+        self.next = next_token(self.text, self.at);
     }
 
     // Passes the next token, which must be of this kind.
     fn expect(&mut self, kind: Kind) -> Result<(), TextRefusal>
         ensures { MatchResult result (λ _. Expected self.old self.new kind) (Unexpected self.old kind) }
     {
-        let token = self.peek();
-        if token.kind != kind {
-            return Err(TextRefusal::NotAllowed(token.place));
+        if self.next.kind != kind {
+            return Err(TextRefusal::NotAllowed(self.next.place));
         }
-        // Written out where a token is passed: a method for it would ask that the token lies in the text.
-        self.at = token.place + token.len;
+        self.pass();
         Ok(())
     }
 
@@ -68,7 +72,7 @@ impl<'a> Reader<'a> {
     fn note(&mut self, parent: usize, edge: Edge) -> Result<usize, TextRefusal>
         ensures { MatchResult result (Noted self.old self.new parent edge) (NoteFails self.old parent edge) }
     {
-        let test = self.peek();
+        let test = self.next;
         if test.kind != Kind::Name && test.kind != Kind::Star {
             return Err(TextRefusal::NotAllowed(test.place));
         }
@@ -80,7 +84,7 @@ impl<'a> Reader<'a> {
         }
         let number = self.nodes.len();
         self.nodes.push(ParsedNode { parent, edge, test });
-        self.at = test.place + test.len;
+        self.pass();
         Ok(number)
     }
 
@@ -88,11 +92,10 @@ impl<'a> Reader<'a> {
     fn begin(&mut self) -> Result<Edge, TextRefusal>
         ensures { MatchResult result (Begun self.old self.new) (BeginFails self.old) }
     {
-        let dot = self.peek();
-        if dot.kind != Kind::Dot {
+        if self.next.kind != Kind::Dot {
             return Ok(Edge::Child);
         }
-        self.at = dot.place + dot.len;
+        self.pass();
         self.expect(Kind::DoubleSlash)?;
         Ok(Edge::Descendant)
     }
@@ -101,13 +104,12 @@ impl<'a> Reader<'a> {
     fn between(&mut self) -> Option<Edge>
         ensures { MatchOption result (Unjoined self.old self.new) (Joined self.old self.new) }
     {
-        let token = self.peek();
-        let edge = match token.kind {
+        let edge = match self.next.kind {
             Kind::Slash => Edge::Child,
             Kind::DoubleSlash => Edge::Descendant,
             _ => return None,
         };
-        self.at = token.place + token.len;
+        self.pass();
         Some(edge)
     }
 
@@ -134,7 +136,7 @@ impl<'a> Reader<'a> {
             (StepFails self.old parent edge room) }
     {
         let number = self.note(parent, edge)?;
-        while self.peek().kind == Kind::Open {
+        while self.next.kind == Kind::Open {
             self.predicate(number, room)?;
         }
         Ok(number)
@@ -149,7 +151,7 @@ impl<'a> Reader<'a> {
             (PredicateFails self.old parent room) }
     {
         if room == 0 {
-            return Err(TextRefusal::DeepBracket(self.peek().place));
+            return Err(TextRefusal::DeepBracket(self.next.place));
         }
         self.expect(Kind::Open)?;
         self.path(parent, room - 1)?;
