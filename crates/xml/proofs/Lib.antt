@@ -1,4 +1,5 @@
 pub mod Once
+pub mod Pairs
 pub mod Between
 pub mod Ends
 pub mod Steps

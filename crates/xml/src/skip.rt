@@ -8,16 +8,16 @@ ghost use Rattle.xml.specs.declared.markup.Markup.TheVariants.{Comment, Instruct
 
 use crate::fault::{ScanFault, XmlFault};
 use crate::markup::{Markup, Stop};
-use labels::spelling::{is_white, rest, run_end, starts_name, white_end};
+use labels::spelling::{is_white, run_end, starts_name, white_end};
 use std::ops::ControlFlow;
 
 // Which markup begins at the place.
 fn which(input: &[u8], at: usize) -> Markup
     ensures { result ≡ markup (drop at input.now) }
 {
-    match rest(input, at) {
-        [] => Markup::Nothing,
-        [b'<', behind @ ..] => match behind {
+    match input.get(at) {
+        None => Markup::Nothing,
+        Some(b'<') => match &input[at + 1..] {
             [] => Markup::Cut,
             [b'/', ..] => Markup::EndTag,
             [b'!', b'-', b'-', ..] => Markup::Comment,
@@ -26,26 +26,23 @@ fn which(input: &[u8], at: usize) -> Markup
             [b, ..] if starts_name(*b) => Markup::StartTag,
             [..] => Markup::Stray,
         },
-        [_, ..] => Markup::Text,
+        Some(_) => Markup::Text,
     }
-}
-
-// Whether the two bytes stand at the place.
-fn is_pair(input: &[u8], at: usize, pair: &[u8; 2]) -> bool
-    requires { 0 < slice_index pair.now 1 }
-    ensures { result ≡ not (apart input.now (slice_index pair.now 0) (slice_index pair.now 1) at) }
-{
-    rest(input, at).starts_with(pair)
 }
 
 // The first place of the two bytes, or the length.
 fn pair_place(input: &[u8], from: usize, pair: &[u8; 2]) -> usize
     requires { 0 < slice_index pair.now 1 }
-    ensures { from ≤ length input.now → Longest (apart input.now (slice_index pair.now 0) (slice_index pair.now 1)) (length input.now) from result }
+    ensures first { from ≤ length input.now → Longest (apart input.now (slice_index pair.now 0) (slice_index pair.now 1)) (length input.now) from result }
+    ensures within { result ≤ length input.now }
 {
-    (from..input.len())
-        .find(|i| is_pair(input, *i, pair))
-        .unwrap_or(input.len())
+    if from >= input.len() {
+        return input.len();
+    }
+    input[from..]
+        .array_windows::<2>()
+        .position(|[a, b]| *a == pair[0] && *b == pair[1])
+        .map_or(input.len(), |i| from + i)
 }
 
 // The end of a comment whose text begins at the place.
@@ -53,7 +50,7 @@ fn dashes_end(input: &[u8], from: usize) -> Result<usize, ScanFault>
     ensures { from ≤ length input.now → MatchResult result (CommentEnds input.now from) (Told (CommentFault input.now from)) }
 {
     let dashes = pair_place(input, from, b"--");
-    match rest(input, dashes) {
+    match &input[dashes..] {
         [_, _, b'>', ..] => Ok(dashes + 3),
         [_, _, _, ..] => Err(ScanFault::Byte(dashes + 2)),
         _ => Err(ScanFault::End(input.len())),
@@ -131,7 +128,10 @@ pub fn skip(input: &[u8], place: &mut usize, inside: bool) -> Result<Stop, XmlFa
     loop {
         match skip_one(input, *place, inside)? {
             // Text may be long, so that it goes by in a loop of its own.
-            ControlFlow::Continue(next) => *place = text_end(input, next, inside),
+            ControlFlow::Continue(next) if is_text(input[*place]) => *place = text_end(
+                input, next, inside,
+            ),
+            ControlFlow::Continue(next) => *place = next,
             ControlFlow::Break(stop) => return Ok(stop),
         }
     }
